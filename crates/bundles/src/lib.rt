@@ -1,0 +1,75 @@
+// Sets of pieces as the bits of a number, piece 0 the lowest, and bids on them, by value.
+ghost use Prim.Native.Nat.{ℕ, _^_, _<_};
+ghost use mathlib.Core.Bool.{not};
+ghost use mathlib.Core.Path.{_≡_};
+ghost use Rattle.std.specs.Orderings.{Decides};
+ghost use Rattle.auction.specs.Bids.{within, less, all};
+ghost use Rattle.auction.specs.House.{any};
+ghost use Rattle.bundles.specs.Masks.{bits, union, meet};
+
+// A set of pieces. Its contracts hold for any number of pieces that are looked at, as long as the masks have no others.
+#[derive(Clone, Copy, PartialEq, Eq)]
+pub struct Bundle {
+    pub mask: u16,
+}
+
+// An offer of so much for these pieces together, and no others.
+#[derive(Clone, Copy, PartialEq, Eq)]
+pub struct Bid {
+    pub on: Bundle,
+    pub price: u32,
+}
+
+impl Bundle {
+    pub fn is_empty(self) -> bool
+        ensures { λ r. ⌜ ((n : ℕ) → self .mask < 2 ^ n → r ≡ not (any (bits n (self .mask)))) ⌝ }
+    {
+        self.mask == 0
+    }
+
+    // Is every piece of this set in the other?
+    pub fn is_within(self, other: Bundle) -> bool
+        ensures { λ r. ⌜ ((k n : ℕ) → self .mask < 2 ^ k → other .mask < 2 ^ n → r ≡ within (bits k (self .mask)) (bits n (other .mask))) ⌝ }
+    {
+        self.mask & other.mask == self.mask
+    }
+
+    // What is left of this set when the other is taken away.
+    pub fn without(self, other: Bundle) -> Bundle
+        ensures { λ r. ⌜ ((k n : ℕ) → other .mask < 2 ^ k → bits n (r .mask) ≡ less (bits n (self .mask)) (bits k (other .mask))) ⌝ }
+    {
+        Bundle {
+            mask: self.mask & !other.mask,
+        }
+    }
+
+    // The pieces of either.
+    pub fn joined(self, other: Bundle) -> Bundle
+        ensures { λ r. ⌜ ((n : ℕ) → bits n (r .mask) ≡ union (bits n (self .mask)) (bits n (other .mask))) ⌝ }
+    {
+        Bundle {
+            mask: self.mask | other.mask,
+        }
+    }
+
+    // Is some piece in both?
+    pub fn shares(self, other: Bundle) -> bool
+        ensures { λ r. ⌜ ((k n : ℕ) → self .mask < 2 ^ k → other .mask < 2 ^ n → r ≡ meet (bits k (self .mask)) (bits n (other .mask))) ⌝ }
+    {
+        self.mask & other.mask != 0
+    }
+
+    // Are the two the same set?
+    pub fn is_same(self, other: Bundle) -> bool
+        ensures { λ r. ⌜ ((n : ℕ) → self .mask < 2 ^ n → other .mask < 2 ^ n → Decides r (bits n (self .mask) ≡ bits n (other .mask))) ⌝ }
+    {
+        self.mask == other.mask
+    }
+
+    // Has a lot of so many pieces all of this set?
+    pub fn fits(self, pieces: u32) -> bool
+        ensures { λ r. ⌜ ((k : ℕ) → self .mask < 2 ^ k → r ≡ within (bits k (self .mask)) (all pieces)) ⌝ }
+    {
+        pieces >= 16 || self.mask >> pieces == 0
+    }
+}
