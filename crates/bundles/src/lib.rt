@@ -6,6 +6,9 @@ ghost use Rattle.std.specs.Orderings.{Decides};
 ghost use Rattle.auction.specs.Bids.{within, less, all};
 ghost use Rattle.auction.specs.House.{any};
 ghost use Rattle.bundles.specs.Masks.{bits, union, meet};
+pub use row::Row;
+
+mod row;
 
 // A set of pieces. Its contracts hold for any number of pieces that are looked at, as long as the masks have no others.
 #[derive(Clone, Copy, PartialEq, Eq)]

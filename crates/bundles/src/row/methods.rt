@@ -1,0 +1,45 @@
+// What a row holds, and one bid more.
+ghost use mathlib.Core.Bool.{cond};
+ghost use mathlib.Core.List.{[], _∷_, _++_};
+ghost use mathlib.Core.Path.{_≡_};
+ghost use lib.Dec.{ltb};
+ghost use lib.ListN.{length};
+ghost use Rattle.bundles.specs.Rows.{held};
+use crate::Bid;
+use crate::Bundle;
+use super::Row;
+
+impl Row {
+    pub fn new() -> Row
+        ensures { λ r. ⌜ held r ≡ [] ⌝ }
+    {
+        let none = Bid {
+            on: Bundle { mask: 0 },
+            price: 0,
+        };
+        Row {
+            bids: [none; 16],
+            count: 0,
+        }
+    }
+
+    pub fn bids(&self) -> &[Bid]
+        ensures { λ r. ⌜ now r ≡ held (now (self .entry)) ⌝ }
+    {
+        &self.bids[0..self.count]
+    }
+
+    // One bid more at the end, or false where the row is full, and stays as it is.
+    pub fn push(&mut self, bid: Bid) -> bool
+        ensures pushed { λ r. ⌜ held (now (self .exit)) ≡ cond r (held (now (self .entry)) ++ bid ∷ []) (held (now (self .entry))) ⌝ }
+        ensures full { λ r. ⌜ r ≡ ltb (length (held (now (self .entry)))) 16 ⌝ }
+    {
+        let at = self.count;
+        if at >= 16 {
+            return false;
+        }
+        self.bids[at] = bid;
+        self.count = at + 1;
+        true
+    }
+}
