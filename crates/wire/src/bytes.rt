@@ -1,0 +1,28 @@
+// Numbers in a row of bytes, low byte first.
+ghost use Prim.Native.Nat.{_+_, _≤_};
+ghost use mathlib.Core.Path.{_≡_};
+ghost use lib.ListN.{drop, length};
+ghost use Rattle.wire.specs.Bytes.{number-in};
+
+pub fn u16_at(bytes: &[u8], at: usize) -> u16
+    requires { ⌜ at + 2 ≤ length (now bytes) ⌝ }
+    ensures { λ r. ⌜ r ≡ number-in 2 (drop at (now (bytes .entry))) ⌝ }
+{
+    u16::from_le_bytes([bytes[at], bytes[at + 1]])
+}
+
+pub fn u32_at(bytes: &[u8], at: usize) -> u32
+    requires { ⌜ at + 4 ≤ length (now bytes) ⌝ }
+    ensures { λ r. ⌜ r ≡ number-in 4 (drop at (now (bytes .entry))) ⌝ }
+{
+    u32::from_le_bytes([bytes[at], bytes[at + 1], bytes[at + 2], bytes[at + 3]])
+}
+
+pub fn u64_at(bytes: &[u8], at: usize) -> u64
+    requires { ⌜ at + 8 ≤ length (now bytes) ⌝ }
+    ensures { λ r. ⌜ r ≡ number-in 8 (drop at (now (bytes .entry))) ⌝ }
+{
+    let low = u32_at(bytes, at);
+    let high = u32_at(bytes, at + 4);
+    u64::from(low) + u64::from(high) * 4294967296
+}
