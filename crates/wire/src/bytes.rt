@@ -1,8 +1,11 @@
-// Numbers in a row of bytes, low byte first.
+// Numbers and bids in a row of bytes, low byte first.
 ghost use Prim.Native.Nat.{_+_, _≤_};
 ghost use mathlib.Core.Path.{_≡_};
 ghost use lib.ListN.{drop, length};
-ghost use Rattle.wire.specs.Bytes.{number-in};
+ghost use Rattle.bundles.specs.Offers.{meant};
+ghost use Rattle.wire.specs.Bytes.{bid-in, number-in};
+use bundles::Bid;
+use bundles::Bundle;
 
 pub fn u16_at(bytes: &[u8], at: usize) -> u16
     requires { ⌜ at + 2 ≤ length (now bytes) ⌝ }
@@ -25,4 +28,14 @@ pub fn u64_at(bytes: &[u8], at: usize) -> u64
     let low = u32_at(bytes, at);
     let high = u32_at(bytes, at + 4);
     u64::from(low) + u64::from(high) * 4294967296
+}
+
+pub fn bid_at(bytes: &[u8], at: usize) -> Bid
+    requires { ⌜ at + 6 ≤ length (now bytes) ⌝ }
+    ensures { λ r. ⌜ meant r ≡ bid-in (drop at (now (bytes .entry))) ⌝ }
+{
+    Bid {
+        on: Bundle { mask: u16_at(bytes, at) },
+        price: u32_at(bytes, at + 2),
+    }
 }

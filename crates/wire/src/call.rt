@@ -1,10 +1,6 @@
 // The calls that a house is asked.
 
-// The bids of a call: the part of its bytes that they are, six bytes each.
-#[derive(Clone, Copy)]
-pub struct Bids<'a> {
-    pub(crate) bytes: &'a [u8],
-}
+use crate::bids::Bids;
 
 #[derive(Clone, Copy)]
 pub enum Call<'a> {

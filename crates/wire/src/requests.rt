@@ -6,7 +6,7 @@ ghost use lib.ListN.{getD, length};
 ghost use Rattle.wire.specs.Calls.{call-in, call-of, call-size};
 ghost use Rattle.wire.specs.Meaning.{asked, read-as};
 use crate::bytes::u32_at;
-use crate::call::Bids;
+use crate::bids::Bids;
 use crate::call::Call;
 use crate::numbers::BID;
 use crate::numbers::BRINGS;
