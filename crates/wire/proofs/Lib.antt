@@ -1,3 +1,4 @@
 pub mod Spelling
 pub mod Calls
 pub mod Sixes
+pub mod Writing

@@ -10,4 +10,5 @@ pub mod answer;
 pub mod bids;
 mod bytes;
 mod numbers;
+mod puts;
 mod requests;

@@ -1,0 +1,8 @@
+use mathlib.Core.Path.{sym, _∙_}
+use native.Mathlib.Omega.{arith}
+use Rattle.wire.proofs.Writing.{put-part, length-spelled, spelled-8}
+use Rattle.wire.proofs.puts.put_u64.Needs as need
+
+pub returns : need.returns
+returns c =
+    put-part (c .args .at) _ (c .args .out .now) _ _ (c .copy-from-slice .ensures .after ∙ c .to-le-bytes .ensures ∙ spelled-8 (c .args .n)) (omega (arith, length-spelled 8 (c .args .n)))
