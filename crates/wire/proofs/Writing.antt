@@ -67,6 +67,10 @@ put-put xs at next bs cs e h =
         sym (drop-drop (length cs) next _) ∙ ap (drop (length cs)) (drop-at front _ next long) ∙ drop-drop (length cs) next xs ∙ ap (λ i. drop i xs) (omega (arith, length-append bs cs)) in
     rw (whole, left, right, append-assoc, append-assoc)
 
+-- an element, and the bytes behind it
+pub put-behind : (xs : List ℕ) (at next b : ℕ) (bs : List ℕ) → at < length xs → next ≡ at + 1 → put (set xs at b) next bs ≡ put xs at (b ∷ bs)
+put-behind xs at next b bs h e = rw (put-one xs at b h) (put-put xs at next (b ∷ []) bs e (omega arith))
+
 -- bids, one after the other
 pub bids-bytes-append : (bs cs : Bids) → bids-bytes (bs ++ cs) ≡ bids-bytes bs ++ bids-bytes cs
 unfolding bids-bytes

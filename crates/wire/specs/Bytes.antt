@@ -1,4 +1,5 @@
 -- Numbers and bids as bytes. Assumes nothing: these are definitions.
+use mathlib.Core.Path.{_≡_}
 use mathlib.Core.List.{List, [], _∷_, _++_}
 use Prim.Native.Nat.{ℕ, zero, suc, _+_, _*_, _/_, _%_}
 use lib.ListN.{drop, take, length}
@@ -31,3 +32,8 @@ bids-in (suc n) bs = bid-in bs ∷ bids-in n (drop 6 bs)
 -- a row of bytes with these in it from a place on, and the others as they were
 unfoldable pub put : List ℕ → ℕ → List ℕ → List ℕ
 put xs at bs = take at xs ++ (bs ++ drop (at + length bs) xs)
+
+-- these bytes were written to the front of a row of bytes, and this is how many they are
+pub record Written (before after : List ℕ) (n : ℕ) (bs : List ℕ) : Type 0 where
+  pub bytes : after ≡ put before 0 bs
+  pub len : n ≡ length bs

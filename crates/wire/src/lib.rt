@@ -3,6 +3,7 @@ pub use answer::Answer;
 pub use answer::Refusal;
 pub use bids::Bids;
 pub use call::Call;
+pub use replies::write_answer;
 pub use requests::read_call;
 
 pub mod call;
@@ -11,4 +12,5 @@ pub mod bids;
 mod bytes;
 mod numbers;
 mod puts;
+mod replies;
 mod requests;

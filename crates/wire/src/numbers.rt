@@ -6,3 +6,8 @@ pub const MY_BIDS: u8 = 3;
 pub const RESULT: u8 = 4;
 pub const BRINGS: u8 = 5;
 pub const LOT: u8 = 6;
+
+pub const REFUSED: u8 = 0;
+pub const NUMBER: u8 = 1;
+pub const TWO: u8 = 2;
+pub const BIDS: u8 = 3;
