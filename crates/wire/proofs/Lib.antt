@@ -2,3 +2,4 @@ pub mod Spelling
 pub mod Calls
 pub mod Sixes
 pub mod Writing
+pub mod Heard

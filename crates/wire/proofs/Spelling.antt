@@ -36,11 +36,13 @@ two-at at bs = omega (arith, number-at 1 at (at + 1) bs (omega arith), number-at
 -- four bytes, and the number that the others are
 four-more : (k at : ℕ) (bs : List ℕ) → number-in (suc (suc (suc (suc k)))) (drop at bs) ≡ getD bs at 0 + getD bs (at + 1) 0 * 256 + getD bs (at + 2) 0 * 65536 + getD bs (at + 3) 0 * 16777216 + 4294967296 * number-in k (drop (at + 4) bs)
 four-more k at bs =
-    omega (arith,
+    omega (
+      arith,
       number-at (suc (suc (suc k))) at (at + 1) bs (omega arith),
       number-at (suc (suc k)) (at + 1) (at + 2) bs (omega arith),
       number-at (suc k) (at + 2) (at + 3) bs (omega arith),
-      number-at k (at + 3) (at + 4) bs (omega arith))
+      number-at k (at + 3) (at + 4) bs (omega arith),
+    )
 
 pub four-at : (at : ℕ) (bs : List ℕ) → number-in 4 (drop at bs) ≡ getD bs at 0 + getD bs (at + 1) 0 * 256 + getD bs (at + 2) 0 * 65536 + getD bs (at + 3) 0 * 16777216
 four-at at bs = omega (arith, four-more 0 at bs, none-at (at + 4) bs)

@@ -64,7 +64,7 @@ put-put xs at next bs cs e h =
     let whole : take at xs ++ (bs ++ drop (at + length bs) xs) ≡ front ++ drop next xs = sym (append-assoc (take at xs) bs _) ∙ ap (λ i. front ++ drop i xs) (sym e) in
     let left : take next (front ++ drop next xs) ≡ front = take-at front _ next long in
     let right : drop (next + length cs) (front ++ drop next xs) ≡ drop (at + length (bs ++ cs)) xs =
-        sym (drop-drop (length cs) next _) ∙ ap (drop (length cs)) (drop-at front _ next long) ∙ drop-drop (length cs) next xs ∙ ap (λ i. drop i xs) (omega (arith, length-append bs cs)) in
+    sym (drop-drop (length cs) next _) ∙ ap (drop (length cs)) (drop-at front _ next long) ∙ drop-drop (length cs) next xs ∙ ap (λ i. drop i xs) (omega (arith, length-append bs cs)) in
     rw (whole, left, right, append-assoc, append-assoc)
 
 -- an element, and the bytes behind it
@@ -91,6 +91,6 @@ pub put-bids-more : (xs ys : List ℕ) (at place i : ℕ) (bids : List Value) (d
 put-bids-more xs ys at place i bids d h room e was =
     let some : List Value = take i bids in
     let size : length (bids-bytes (all-meant some)) ≡ 6 * i =
-        length-bids-bytes (all-meant some) ∙ ap (λ n. 6 * n) (length-map some meant ∙ length-take-le i bids (omega arith)) in
+    length-bids-bytes (all-meant some) ∙ ap (λ n. 6 * n) (length-map some meant ∙ length-take-le i bids (omega arith)) in
     rw was (put-put xs at place (bids-bytes (all-meant some)) _ (omega arith) (omega arith)
     ∙ ap (put xs at) (sym (bids-bytes-append (all-meant some) _) ∙ ap bids-bytes (sym (map-more meant bids i d h))))

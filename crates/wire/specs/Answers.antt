@@ -17,7 +17,7 @@ answer-bytes (list bs) = 3 ∷ (length bs ∷ bids-bytes bs)
 
 pub data Heard : Type 0 where
   heard : Answer → Heard
-  lost : ℕ → Heard       -- bytes that are no answer; where they cease to be one
+  lost : ℕ → Heard  -- bytes that are no answer; where they cease to be one
 
 -- how many bytes an answer has, by its kind and its count of bids: 0 where there is no such kind, and 1 where there are too many bids
 abbrev pub length-by : ℕ → ℕ → ℕ

@@ -1,11 +1,18 @@
 // Numbers and bids in a row of bytes, low byte first.
 ghost use Prim.Native.Nat.{_+_, _≤_};
 ghost use mathlib.Core.Path.{_≡_};
-ghost use lib.ListN.{drop, length};
+ghost use lib.ListN.{drop, getD, length};
 ghost use Rattle.bundles.specs.Offers.{meant};
 ghost use Rattle.wire.specs.Bytes.{bid-in, number-in};
 use bundles::Bid;
 use bundles::Bundle;
+
+// The byte at a place, or 0 where the bytes end before it.
+pub fn byte_or_zero(bytes: &[u8], at: usize) -> u8
+    ensures { λ r. ⌜ r ≡ getD (now (bytes .entry)) at 0 ⌝ }
+{
+    if at < bytes.len() { bytes[at] } else { 0 }
+}
 
 pub fn u16_at(bytes: &[u8], at: usize) -> u16
     requires { ⌜ at + 2 ≤ length (now bytes) ⌝ }
@@ -35,7 +42,9 @@ pub fn bid_at(bytes: &[u8], at: usize) -> Bid
     ensures { λ r. ⌜ meant r ≡ bid-in (drop at (now (bytes .entry))) ⌝ }
 {
     Bid {
-        on: Bundle { mask: u16_at(bytes, at) },
+        on: Bundle {
+            mask: u16_at(bytes, at),
+        },
         price: u32_at(bytes, at + 2),
     }
 }

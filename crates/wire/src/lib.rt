@@ -3,13 +3,14 @@ pub use answer::Answer;
 pub use answer::Refusal;
 pub use bids::Bids;
 pub use call::Call;
+pub use replies::read_answer;
 pub use replies::write_answer;
 pub use requests::read_call;
 
-pub mod call;
 pub mod answer;
 pub mod bids;
 mod bytes;
+pub mod call;
 mod numbers;
 mod puts;
 mod replies;

@@ -5,8 +5,9 @@ ghost use mathlib.Core.Path.{_≡_};
 ghost use lib.ListN.{getD, length};
 ghost use Rattle.wire.specs.Calls.{call-in, call-of, call-size};
 ghost use Rattle.wire.specs.Meaning.{asked, read-as};
-use crate::bytes::u32_at;
 use crate::bids::Bids;
+use crate::bytes::byte_or_zero;
+use crate::bytes::u32_at;
 use crate::call::Call;
 use crate::numbers::BID;
 use crate::numbers::BRINGS;
@@ -35,18 +36,11 @@ fn size_of_call(request: &[u8]) -> usize
         return 1;
     }
     match request[0] {
-        BID => 10 + 6 * usize::from(count_of_bids(request)),
+        BID => 10 + 6 * usize::from(byte_or_zero(request, 9)),
         OPEN | MY_BIDS | RESULT => 9,
         TICKS | BRINGS | LOT => 5,
         _ => 0,
     }
-}
-
-// The byte before the bids, or 0 where it is yet to come.
-fn count_of_bids(request: &[u8]) -> u8
-    ensures { λ r. ⌜ r ≡ getD (now (request .entry)) 9 0 ⌝ }
-{
-    if request.len() > 9 { request[9] } else { 0 }
 }
 
 fn whole_call<'a>(request: &'a [u8]) -> Call<'a>
@@ -55,11 +49,26 @@ fn whole_call<'a>(request: &'a [u8]) -> Call<'a>
 {
     let first = u32_at(request, 1);
     match request[0] {
-        OPEN => Call::Open { pieces: first, until: u32_at(request, 5) },
-        BID => Call::Bid { lot: first, bidder: u32_at(request, 5), bids: Bids { bytes: &request[10..] } },
+        OPEN => Call::Open {
+            pieces: first,
+            until: u32_at(request, 5),
+        },
+        BID => Call::Bid {
+            lot: first,
+            bidder: u32_at(request, 5),
+            bids: Bids {
+                bytes: &request[10..],
+            },
+        },
         TICKS => Call::Ticks { ticks: first },
-        MY_BIDS => Call::MyBids { lot: first, bidder: u32_at(request, 5) },
-        RESULT => Call::Result { lot: first, bidder: u32_at(request, 5) },
+        MY_BIDS => Call::MyBids {
+            lot: first,
+            bidder: u32_at(request, 5),
+        },
+        RESULT => Call::Result {
+            lot: first,
+            bidder: u32_at(request, 5),
+        },
         BRINGS => Call::Brings { lot: first },
         _ => Call::Lot { lot: first },
     }

@@ -5,9 +5,9 @@ ghost use mathlib.Core.Path.{_≡_};
 ghost use lib.Dec.{ltb};
 ghost use lib.ListN.{length};
 ghost use Rattle.bundles.specs.Rows.{held};
+use super::Row;
 use crate::Bid;
 use crate::Bundle;
-use super::Row;
 
 impl Row {
     pub fn new() -> Row
