@@ -12,12 +12,8 @@ use Rattle.bundles.specs.Masks.{bits, mask-of}
 use Rattle.bundles.specs.Offers.{meant, all-meant}
 use Rattle.bundles.specs.declared.Bid.{Bid as Value}
 use Rattle.bundles.proofs.Sets.{mask-bits}
-use Rattle.wire.specs.Bytes.{spelled, bids-bytes, put}
-
-pub length-spelled : (k n : ℕ) → length (spelled k n) ≡ k
-unfolding spelled
-length-spelled zero n = refl
-length-spelled (suc k) n = ap suc (length-spelled k (n / 256))
+use Rattle.wire.proofs.Spelling.{length-spelled}
+use Rattle.wire.specs.Bytes.{Written, spelled, bids-bytes, put}
 
 -- the bytes of a number as `to_le_bytes` gives them
 pub spelled-2 : (n : ℕ) → n % 256 ∷ n / 256 % 256 ∷ [] ≡ spelled 2 n
@@ -49,6 +45,11 @@ put-part at k xs ys bs e n = rw (e, n, drop-drop (length bs) at xs)
 pub put-none : (xs : List ℕ) (at : ℕ) → put xs at [] ≡ xs
 unfolding put
 put-none xs at = rw add-zero (take-append-drop at xs)
+
+pub length-put : (xs : List ℕ) (at : ℕ) (bs : List ℕ) → at + length bs ≤ length xs → length (put xs at bs) ≡ length xs
+unfolding put
+length-put xs at bs h =
+    omega (arith, length-append (take at xs) (bs ++ drop (at + length bs) xs), length-append bs (drop (at + length bs) xs), length-take-le at xs (omega arith), length-drop (at + length bs) xs)
 
 -- one element is written
 pub put-one : (xs : List ℕ) (at b : ℕ) → at < length xs → set xs at b ≡ put xs at (b ∷ [])
@@ -94,3 +95,18 @@ put-bids-more xs ys at place i bids d h room e was =
     length-bids-bytes (all-meant some) ∙ ap (λ n. 6 * n) (length-map some meant ∙ length-take-le i bids (omega arith)) in
     rw was (put-put xs at place (bids-bytes (all-meant some)) _ (omega arith) (omega arith)
     ∙ ap (put xs at) (sym (bids-bytes-append (all-meant some) _) ∙ ap bids-bytes (sym (map-more meant bids i d h))))
+
+-- a kind, and one number or two of k bytes each behind it
+module _ (k : ℕ) (out one : List ℕ) (kind a : ℕ) (first : one ≡ put (set out 0 kind) 1 (spelled k a)) where
+  pub single-written : (n : ℕ) → n ≡ suc k → n ≤ length out → Written out one n (kind ∷ spelled k a)
+  single-written n e room = record {
+    bytes = first ∙ put-behind out 0 1 kind (spelled k a) (omega arith) refl;
+    len = omega (arith, length-spelled k a);
+  }
+
+  pub pair-written : (two : List ℕ) (b next n : ℕ) → next ≡ suc k → n ≡ suc (k + k) → n ≤ length out → two ≡ put one next (spelled k b) → Written out two n (kind ∷ (spelled k a ++ spelled k b))
+  pair-written two b next n e m room second = record {
+    bytes = second ∙ ap (λ xs. put xs next (spelled k b)) (single-written (suc k) refl (omega arith) .bytes)
+      ∙ put-put out 0 next (kind ∷ spelled k a) (spelled k b) (omega (arith, length-spelled k a)) (omega arith);
+    len = omega (arith, length-append (spelled k a) (spelled k b), length-spelled k a, length-spelled k b);
+  }

@@ -1,10 +1,16 @@
 -- Numbers and bids as bytes. Assumes nothing: these are definitions.
 use mathlib.Core.Path.{_≡_}
 use mathlib.Core.List.{List, [], _∷_, _++_}
-use Prim.Native.Nat.{ℕ, zero, suc, _+_, _*_, _/_, _%_}
-use lib.ListN.{drop, take, length}
+use Prim.Native.Nat.{ℕ, zero, suc, _+_, _*_, _/_, _%_, _<_}
+use lib.ListN.{drop, getD, take, length}
+use Rattle.std.specs.Options.{Cases}
+use Rattle.std.specs.declared.option.Option.{Option}
 use Rattle.auction.specs.Bids.{Bid, Bids}
 use Rattle.bundles.specs.Masks.{bits, mask-of}
+
+-- each is a byte
+abbrev pub AllBytes : List ℕ → Type 0
+AllBytes bs = (i : ℕ) → getD bs i 0 < 256
 
 -- a number as k bytes, low byte first; and the number that the first k bytes are
 unfoldable pub spelled : ℕ → ℕ → List ℕ
@@ -37,3 +43,7 @@ put xs at bs = take at xs ++ (bs ++ drop (at + length bs) xs)
 pub record Written (before after : List ℕ) (n : ℕ) (bs : List ℕ) : Type 0 where
   pub bytes : after ≡ put before 0 bs
   pub len : n ≡ length bs
+
+-- these bytes were written, or there was no room for them and nothing was
+abbrev pub WrittenIf : List ℕ → List ℕ → Option ℕ → List ℕ → Type 0
+WrittenIf before after r bs = Cases r ((length before < length bs) × (after ≡ before)) (λ n. Written before after n bs)

@@ -10,7 +10,7 @@ use Rattle.auction.specs.House.{Call, opens, bids, ticks, my-bids, result, brin
 use Rattle.wire.specs.Bytes.{spelled, number-in, bids-bytes, bids-in}
 
 -- how a call is written
-unfoldable pub fields : Call → List ℕ
+abbrev pub fields : Call → List ℕ
 fields (opens n t) = spelled 4 n ++ spelled 4 t
 fields (bids k b bs) = spelled 4 k ++ (spelled 4 b ++ (length bs ∷ bids-bytes bs))
 fields (ticks n) = spelled 4 n

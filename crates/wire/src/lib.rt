@@ -6,6 +6,7 @@ pub use call::Call;
 pub use replies::read_answer;
 pub use replies::write_answer;
 pub use requests::read_call;
+pub use requests::write_call;
 
 pub mod answer;
 pub mod bids;

@@ -3,7 +3,8 @@ use Prim.Native.Nat.{_+_}
 use native.Mathlib.Omega.{arith}
 use borrow.Author.Needs.{needs}
 use Rattle.wire.specs.Bytes.{put, spelled}
-use Rattle.wire.proofs.Writing.{put-put, bid-bytes, length-spelled}
+use Rattle.wire.proofs.Spelling.{length-spelled}
+use Rattle.wire.proofs.Writing.{put-put, bid-bytes}
 use Rattle.wire.proofs.puts.put_bid.Needs as need
 
 pub returns : need.returns

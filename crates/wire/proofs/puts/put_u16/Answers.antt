@@ -1,6 +1,7 @@
 use mathlib.Core.Path.{sym, _∙_}
 use native.Mathlib.Omega.{arith}
-use Rattle.wire.proofs.Writing.{put-part, length-spelled, spelled-2}
+use Rattle.wire.proofs.Spelling.{length-spelled}
+use Rattle.wire.proofs.Writing.{put-part, spelled-2}
 use Rattle.wire.proofs.puts.put_u16.Needs as need
 
 pub returns : need.returns
