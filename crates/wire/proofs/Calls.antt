@@ -52,6 +52,6 @@ module _ (lot bidder : ℕ) (part : List ℕ) (bytes : AllBytes part) (whole : l
       let long : length two ≡ length out = ap length (pair .bytes) ∙ length-put out 0 head (omega arith) in
       record {
         bytes = put-part 10 k (set two 9 count) after part third n ∙ put-behind two 9 10 count part (omega arith) refl ∙ ap (λ xs. put xs 9 (count ∷ part)) (pair .bytes)
-          ∙ put-put out 0 9 head (count ∷ part) (omega arith) (omega arith) ∙ ap (put out 0) (sym spelt-out);
+            ∙ put-put out 0 9 head (count ∷ part) (omega arith) (omega arith) ∙ ap (put out 0) (sym spelt-out);
         len = e ∙ sym length-bid-call;
       }

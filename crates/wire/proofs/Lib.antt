@@ -3,3 +3,4 @@ pub mod Calls
 pub mod Sixes
 pub mod Writing
 pub mod Heard
+pub mod RoundTrips

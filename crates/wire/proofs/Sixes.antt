@@ -88,7 +88,7 @@ bids-forth (b ∷ bs) more h =
     let whole = append-assoc (spelled 2 (mask-of (b .on))) (spelled 4 (b .price) ++ bids-bytes bs) more ∙ ap (λ l. spelled 2 (mask-of (b .on)) ++ l) (append-assoc (spelled 4 (b .price)) (bids-bytes bs) more) in
     let tail = drop-at (spelled 2 (mask-of (b .on))) (spelled 4 (b .price) ++ (bids-bytes bs ++ more)) 2 (length-spelled 2 _) in
     let last : drop 6 (spelled 2 (mask-of (b .on)) ++ (spelled 4 (b .price) ++ (bids-bytes bs ++ more))) ≡ bids-bytes bs ++ more =
-        sym (drop-drop 4 2 (spelled 2 (mask-of (b .on)) ++ (spelled 4 (b .price) ++ (bids-bytes bs ++ more)))) ∙ ap (drop 4) tail ∙ drop-at (spelled 4 (b .price)) _ 4 (length-spelled 4 _) in
+    sym (drop-drop 4 2 (spelled 2 (mask-of (b .on)) ++ (spelled 4 (b .price) ++ (bids-bytes bs ++ more)))) ∙ ap (drop 4) tail ∙ drop-at (spelled 4 (b .price)) _ 4 (length-spelled 4 _) in
     rw (whole, number-spelled 2 (mask-of (b .on)) _ mask, set, tail, price, last, bids-forth bs more (parts .1))
 
 -- what lies behind the bids is not looked at

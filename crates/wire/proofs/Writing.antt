@@ -107,6 +107,6 @@ module _ (k : ℕ) (out one : List ℕ) (kind a : ℕ) (first : one ≡ put (set
   pub pair-written : (two : List ℕ) (b next n : ℕ) → next ≡ suc k → n ≡ suc (k + k) → n ≤ length out → two ≡ put one next (spelled k b) → Written out two n (kind ∷ (spelled k a ++ spelled k b))
   pair-written two b next n e m room second = record {
     bytes = second ∙ ap (λ xs. put xs next (spelled k b)) (single-written (suc k) refl (omega arith) .bytes)
-      ∙ put-put out 0 next (kind ∷ spelled k a) (spelled k b) (omega (arith, length-spelled k a)) (omega arith);
+        ∙ put-put out 0 next (kind ∷ spelled k a) (spelled k b) (omega (arith, length-spelled k a)) (omega arith);
     len = omega (arith, length-append (spelled k a) (spelled k b), length-spelled k a, length-spelled k b);
   }

@@ -1,6 +1,7 @@
 pub mod Answers
 pub mod Bytes
 pub mod Calls
+pub mod Laws
 pub mod Meaning
 pub mod Offers
 pub mod Refusals

@@ -12,6 +12,7 @@ pub mod answer;
 pub mod bids;
 mod bytes;
 pub mod call;
+pub mod laws;
 mod numbers;
 mod puts;
 mod replies;
