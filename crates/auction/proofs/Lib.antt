@@ -4,3 +4,6 @@ pub mod Best
 pub mod Choice
 pub mod Payments
 pub mod Truth
+pub mod Raising
+pub mod HouseLaws
+pub mod Sealed

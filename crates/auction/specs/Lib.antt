@@ -1,3 +1,4 @@
 pub mod Bids
 pub mod House
 pub mod Promise
+pub mod Laws
