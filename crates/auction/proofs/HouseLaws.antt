@@ -35,7 +35,7 @@ pick-zero false m n e = absurd (omega arith)
 
 -- what the checks of bids that are taken say
 pub bids-taken : (l : Limits) (h : House) (k b : ℕ) (bs : Bids) → turned l h (bids k b bs) ≡ 0 →
-  (k < length (h .lots)) × (h .now < the-lot h k .until) × (all-in bs (the-lot h k .pieces) ≡ true)
+    (k < length (h .lots)) × (h .now < the-lot h k .until) × (all-in bs (the-lot h k .pieces) ≡ true)
 bids-taken l h k b bs e =
     let asked = pick-zero (good-call l (bids k b bs)) _ _ e in
     let there = pick-zero (ltb k (length (h .lots))) _ _ (asked .1) in
@@ -49,7 +49,7 @@ closed-bids l h j b k bs w e s =
     omega (arith, bids-taken l h j b bs e .1)
 
 closed-changed : (l : Limits) (h : House) (c : Call) (k : ℕ) → k < length (h .lots) → the-lot h k .until ≤ h .now → turned l h c ≡ 0 →
-  the-lot (changed l h c) k ≡ the-lot h k
+    the-lot (changed l h c) k ≡ the-lot h k
 closed-changed l h (opens n t) k m w e = getD-append-left (h .lots) _ _ k m
 closed-changed l h (bids j b bs) k m w e = getD-set-other (h .lots) j k _ _ (closed-bids l h j b k bs w e)
 closed-changed l h (ticks n) k m w e = refl
@@ -59,22 +59,24 @@ closed-changed l h (brings j) k m w e = refl
 closed-changed l h (lot-is j) k m w e = refl
 closed-changed l h (garbled n) k m w e = refl
 
+pub closed-kept : (l : Limits) (h : House) (c : Call) (k : ℕ) → k < length (h .lots) → the-lot h k .until ≤ h .now → the-lot (after l h c) k ≡ the-lot h k
+closed-kept l h c k m w = go (after-either l h c)
+  where
+    go : ((turned l h c ≡ 0) × (after l h c ≡ changed l h c)) ⊎ (after l h c ≡ h) → the-lot (after l h c) k ≡ the-lot h k
+    go (inl (e, t)) = ap (λ (g : House). the-lot g k) t ∙ closed-changed l h c k m w e
+    go (inr t) = ap (λ (g : House). the-lot g k) t
+
 pub closed-stays : Closed-stays
 unfolding Closed-stays
-closed-stays = λ l h c k m w. go l h c k m w (after-either l h c)
-  where
-    go : (l : Limits) (h : House) (c : Call) (k : ℕ) → k < length (h .lots) → the-lot h k .until ≤ h .now →
-      ((turned l h c ≡ 0) × (after l h c ≡ changed l h c)) ⊎ (after l h c ≡ h) → the-lot (after l h c) k ≡ the-lot h k
-    go l h c k m w (inl (e, t)) = ap (λ (g : House). the-lot g k) t ∙ closed-changed l h c k m w e
-    go l h c k m w (inr t) = ap (λ (g : House). the-lot g k) t
+closed-stays = closed-kept
 
 pub lots-apart : Lots-apart
 unfolding Lots-apart
 lots-apart = λ l h j b k bs d. go l h j b k bs d (after-either l h (bids j b bs))
   where
     go : (l : Limits) (h : House) (j b k : ℕ) (bs : Bids) → j ≢ k →
-      ((turned l h (bids j b bs) ≡ 0) × (after l h (bids j b bs) ≡ changed l h (bids j b bs))) ⊎ (after l h (bids j b bs) ≡ h) →
-      the-lot (after l h (bids j b bs)) k ≡ the-lot h k
+        ((turned l h (bids j b bs) ≡ 0) × (after l h (bids j b bs) ≡ changed l h (bids j b bs))) ⊎ (after l h (bids j b bs) ≡ h) →
+        the-lot (after l h (bids j b bs)) k ≡ the-lot h k
     go l h j b k bs d (inl (e, t)) = ap (λ (g : House). the-lot g k) t ∙ getD-set-other (h .lots) j k _ _ (λ s. d (sym s))
     go l h j b k bs d (inr t) = ap (λ (g : House). the-lot g k) t
 
@@ -107,11 +109,12 @@ set-keeps f (x ∷ xs) (suc k) zero v d e = refl
 set-keeps f (x ∷ xs) (suc k) (suc i) v d e = set-keeps f xs k i v d e
 
 bids-like : (l : Limits) (h : House) (k b : ℕ) (bs : Bids) → Like (changed l h (bids k b bs)) h
-bids-like l h k b bs = record
-  { now = refl
-  ; count = length-set (h .lots) k _
-  ; pieces = λ i. set-keeps (λ (o : Lot). o .pieces) (h .lots) k i _ _ refl
-  ; until = λ i. set-keeps (λ (o : Lot). o .until) (h .lots) k i _ _ refl }
+bids-like l h k b bs = record {
+  now = refl;
+  count = length-set (h .lots) k _;
+  pieces = λ i. set-keeps (λ (o : Lot). o .pieces) (h .lots) k i _ _ refl;
+  until = λ i. set-keeps (λ (o : Lot). o .until) (h .lots) k i _ _ refl;
+}
 
 -- a lot with the bids of one bidder in place of those before
 abbrev pub put : ℕ → Bids → Lot → Lot
@@ -121,7 +124,7 @@ put-put : (b : ℕ) (xs ys : Bids) (o : Lot) → put b ys (put b xs o) ≡ put b
 put-put b xs ys o = ap {B = Lot} (λ (m : List Bids). record { pieces = o .pieces; until = o .until; made = m }) (set-set (o .made) b xs ys)
 
 bids-twice : (l : Limits) (h : House) (k b : ℕ) (xs ys : Bids) → k < length (h .lots) →
-  changed l (changed l h (bids k b xs)) (bids k b ys) ≡ changed l h (bids k b ys)
+    changed l (changed l h (bids k b xs)) (bids k b ys) ≡ changed l h (bids k b ys)
 bids-twice l h k b xs ys m =
     let o : Lot = the-lot h k in
     let first : List Lot = set (h .lots) k (put b xs o) in

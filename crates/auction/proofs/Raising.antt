@@ -24,7 +24,7 @@ raised-else bs j x zero d = refl
 raised-else bs j x (suc k) d = getD-set-other bs j k _ no-bid (λ e. d (ap suc e))
 
 raised-there : (bs : Bids) (j x : ℕ) → j < length bs →
-  given (raised bs j x) (suc j) ≡ record { on = getD bs j no-bid .on; price = getD bs j no-bid .price + x }
+    given (raised bs j x) (suc j) ≡ record { on = getD bs j no-bid .on; price = getD bs j no-bid .price + x }
 unfolding raised given
 raised-there bs j x l = getD-set-same bs j _ no-bid l
 
@@ -40,24 +40,28 @@ only-raised bs j x c free f (l, v, e) (m, w, k) = go (cases-eq c (suc j))
   where
     more : Bids
     more = raised bs j (suc x)
+
     up : Bid
     up = record { on = getD bs j no-bid .on; price = getD bs j no-bid .price + suc x }
+
     above : with-bid up free f ≤ with-some more free f
     above =
-      subst (λ (b : Bid). with-bid b free f ≤ with-some more free f) (raised-there bs j (suc x) l)
-      (some-ge free f more (suc j) (subst (λ (b : Bid). fits b free ≡ true) (sym (raised-there bs j (suc x) l)) v))
+        subst (λ (b : Bid). with-bid b free f ≤ with-some more free f) (raised-there bs j (suc x) l)
+        (some-ge free f more (suc j) (subst (λ (b : Bid). fits b free ≡ true) (sym (raised-there bs j (suc x) l)) v))
+
     below : c ≢ suc j → with-some more free f ≤ with-some bs free f
     below d =
-      let same : given more c ≡ given bs c = raised-else bs j (suc x) c d in
-      let come : with-bid (given bs c) free f ≡ with-some more free f = subst (λ (b : Bid). with-bid b free f ≡ with-some more free f) same k in
-      omega (arith, some-ge free f bs c (subst (λ (b : Bid). fits b free ≡ true) same w))
+        let same : given more c ≡ given bs c = raised-else bs j (suc x) c d in
+        let come : with-bid (given bs c) free f ≡ with-some more free f = subst (λ (b : Bid). with-bid b free f ≡ with-some more free f) same k in
+        omega (arith, some-ge free f bs c (subst (λ (b : Bid). fits b free ≡ true) same w))
+
     go : (c ≡ suc j) ⊎ (c ≡ suc j → ⊥) → c ≡ suc j
     go (inl s) = s
     go (inr d) = absurd (omega (arith, above, below d))
 
 -- the choices of two lists of bids that differ in one bidder's, of which the second are the first raised at the place j
 place-kept : (bss more : List Bids) (i j x : ℕ) (free : Some) → without more i ≡ without bss i → getD more i [] ≡ raised (getD bss i []) j (suc x) →
-  getD (choice bss free) i 0 ≡ suc j → getD (choice more free) i 0 ≡ suc j
+    getD (choice bss free) i 0 ≡ suc j → getD (choice more free) i 0 ≡ suc j
 place-kept bss more i j x free same there e =
     let P : List Bids → Type 0 = λ others. Got free (best others) (getD more i []) (getD (choice more free) i 0) in
     let Q : Bids → Type 0 = λ bs. Got free (best (without bss i)) bs (getD (choice more free) i 0) in
@@ -67,7 +71,7 @@ place-kept bss more i j x free same there e =
     (subst Q there (subst P same (taken-got more i free)))
 
 raising-place : (bss : List Bids) (i j x : ℕ) (free : Some) → i < length bss → getD (choice bss free) i 0 ≡ suc j →
-  getD (choice (set bss i (raised (getD bss i []) j x)) free) i 0 ≡ suc j
+    getD (choice (set bss i (raised (getD bss i []) j x)) free) i 0 ≡ suc j
 raising-place bss i j zero free l e =
     ap (λ (xs : List Bids). getD (choice xs free) i 0) (ap (set bss i) (raised-by-nothing (getD bss i []) j) ∙ set-getD bss i []) ∙ e
 raising-place bss i j (suc x) free l e =
@@ -79,15 +83,15 @@ raising-keeps-place = raising-place
 
 -- the payment hangs on the others' bids and on the pieces that are got, and on nothing else
 pub pays-by-pieces : (bss more : List Bids) (i : ℕ) (free : Some) → without more i ≡ without bss i → taken more free i .on ≡ taken bss free i .on →
-  pays more free i ≡ pays bss free i
+    pays more free i ≡ pays bss free i
 pays-by-pieces bss more i free same on =
     let left : best (without more i) (less free (taken more free i .on)) ≡ best (without bss i) (less free (taken bss free i .on)) =
-      ap₂ (λ (xs : List Bids) (s : Some). best xs (less free s)) same on in
+    ap₂ (λ (xs : List Bids) (s : Some). best xs (less free s)) same on in
     let alone : best (without more i) free ≡ best (without bss i) free = ap (λ (xs : List Bids). best xs free) same in
     omega (arith, pays-is bss free i, pays-is more free i)
 
 raising-pieces : (bss : List Bids) (i j x : ℕ) (free : Some) → i < length bss → getD (choice bss free) i 0 ≡ suc j →
-  taken (set bss i (raised (getD bss i []) j x)) free i .on ≡ taken bss free i .on
+    taken (set bss i (raised (getD bss i []) j x)) free i .on ≡ taken bss free i .on
 unfolding given
 raising-pieces bss i j x free l e =
     let bs : Bids = getD bss i [] in

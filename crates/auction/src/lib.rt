@@ -1,12 +1,19 @@
-// What the auction promises: each function here carries one theorem on its contract, and computes nothing.
-ghost use Rattle.auction.specs.Promise.{Truth-is-best, Best-of-all, Not-more-than-bid, Never-loses};
+// What the auction promises: each function here carries one theorem on its contract, and computes nothing. docs/THEOREMS.md is their index.
+ghost use Rattle.auction.specs.Promise.{Truth-is-best, Sealed, Best-of-all, Not-more-than-bid, Never-loses, Raising-keeps};
+ghost use Rattle.auction.specs.Promise.{Closed-stays, Lots-apart, Last-counts, Turned-away};
+ghost use Rattle.auction.specs.Laws.{Raising-keeps-place};
 
-// No bids but the true ones gain a bidder anything, whatever the others bid.
+// Whatever the others bid, no bids gain a bidder more than its true ones do.
 pub fn nobody_gains_by_lying()
     ensures { λ _. ⌜ Truth-is-best ⌝ }
 {}
 
-// What is taken fits, comes to the best, and no way that fits comes to more.
+// As long as a lot is open, what the others do there changes no answer but those to their own calls.
+pub fn bids_are_sealed()
+    ensures { λ _. ⌜ Sealed ⌝ }
+{}
+
+// The allocation fits, comes to the best, and none that fits comes to more.
 pub fn no_allocation_comes_to_more()
     ensures { λ _. ⌜ Best-of-all ⌝ }
 {}
@@ -19,4 +26,34 @@ pub fn nobody_pays_more_than_it_bid()
 // What a truthful bidder gets is worth what it pays.
 pub fn the_truthful_never_lose()
     ensures { λ _. ⌜ Never-loses ⌝ }
+{}
+
+// Raising the price of the bid that was taken changes neither the pieces nor the payment.
+pub fn raising_keeps_pieces_and_payment()
+    ensures { λ _. ⌜ Raising-keeps ⌝ }
+{}
+
+// And it is that same bid, by its place, that is taken.
+pub fn raising_keeps_the_bid_taken()
+    ensures { λ _. ⌜ Raising-keeps-place ⌝ }
+{}
+
+// No call changes a lot that is closed.
+pub fn a_closed_lot_stays()
+    ensures { λ _. ⌜ Closed-stays ⌝ }
+{}
+
+// Bids on one lot change no other.
+pub fn lots_stand_apart()
+    ensures { λ _. ⌜ Lots-apart ⌝ }
+{}
+
+// Who bids again is as if the earlier bids had never been.
+pub fn the_last_bids_count()
+    ensures { λ _. ⌜ Last-counts ⌝ }
+{}
+
+// A call that is turned away changes no later answer.
+pub fn a_refused_call_changes_nothing()
+    ensures { λ _. ⌜ Turned-away ⌝ }
 {}
