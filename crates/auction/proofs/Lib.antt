@@ -7,3 +7,4 @@ pub mod Truth
 pub mod Raising
 pub mod HouseLaws
 pub mod Sealed
+pub mod Parting

@@ -5,9 +5,10 @@ use mathlib.Core.Bool.{Bool, true, false, not, _&&_, _||_}
 use mathlib.Core.List.{List, [], _∷_}
 use Prim.Native.Nat.{ℕ, zero, suc, _<_}
 use lib.ListN.{length, getD}
-use Rattle.std.proofs.shelf.Tests.{false≢true, both-ways, and-parts, and-from, not-true, not-from-false}
+use Rattle.std.proofs.shelf.Tests.{false≢true, both-ways, and-parts, and-from, or-parts, not-true, not-from-false}
 use Rattle.std.proofs.shelf.Lists.{ext-getD}
 use Rattle.auction.specs.Bids.{Some, within, less}
+use Rattle.auction.specs.Laws.{touches}
 
 -- is the piece i in the set
 abbrev pub has : Some → ℕ → Bool
@@ -114,3 +115,69 @@ pub within-swap : (a b s : Some) → within a s ≡ true → within b (less s a)
 within-swap a b s v w =
     has-within a (less s b) λ i h. less-in s b i (within-has a s v i h)
     (not-so (has b i) (λ k. both-ways (has a i) (in-less s a i (within-has b (less s a) w i k) .1) h))
+
+pub less-less : (f g s : Some) → within g s ≡ true → less (less f g) (less s g) ≡ less f s
+less-less f g s w =
+    same-set (less (less f g) (less s g)) (less f s) (length-less (less f g) (less s g) ∙ length-less f g ∙ sym (length-less f s))
+    (λ i. simp has-less (go i (has f i) (has g i) (has s i) (within-has g s w i)))
+  where
+    go : (i : ℕ) (x y z : Bool) → (y ≡ true → z ≡ true) → ((x && not y) && not (z && not y)) ≡ (x && not z)
+    go i true true z h = sym (ap not (h refl))
+    go i true false true h = refl
+    go i true false false h = refl
+    go i false y z h = refl
+
+-- what is left of a set is what is left when all else is taken
+pub less-back : (f g s : Some) → less f (less f (less (less f g) s)) ≡ less (less f g) s
+less-back f g s =
+    same-set (less f (less f (less (less f g) s))) (less (less f g) s)
+    (length-less f (less f (less (less f g) s)) ∙ sym (length-less (less f g) s ∙ length-less f g))
+    (λ i. simp has-less (go (has f i) (has g i) (has s i)))
+  where
+    go : (x y z : Bool) → (x && not (x && not ((x && not y) && not z))) ≡ ((x && not y) && not z)
+    go true true z = refl
+    go true false true = refl
+    go true false false = refl
+    go false y z = refl
+
+pub within-back : (s f : Some) → within s f ≡ true → within s (less f (less f s)) ≡ true
+within-back s f w =
+    has-within s (less f (less f s)) λ i h.
+    less-in f (less f s) i (within-has s f w i h) (not-so (has (less f s) i) (λ k. both-ways (has s i) (in-less f s i k .1) h))
+
+-- sets that share no piece
+pub touches-comm : (a b : Some) → touches a b ≡ touches b a
+unfolding touches
+touches-comm [] [] = refl
+touches-comm [] (y ∷ b) = refl
+touches-comm (x ∷ a) [] = refl
+touches-comm (x ∷ a) (y ∷ b) = go x y (touches-comm a b)
+  where
+    go : (x y : Bool) → touches a b ≡ touches b a → ((x && y) || touches a b) ≡ ((y && x) || touches b a)
+    go true true e = refl
+    go true false e = e
+    go false true e = e
+    go false false e = e
+
+pub touches-nothing : (a : Some) → touches a [] ≡ false
+unfolding touches
+touches-nothing [] = refl
+touches-nothing (x ∷ a) = refl
+
+and-right-false : (x y : Bool) → x ≡ true → (x && y) ≡ false → y ≡ false
+and-right-false true y h e = e
+and-right-false false y h e = absurd (false≢true h)
+
+touches-has : (a b : Some) → touches a b ≡ false → (i : ℕ) → has a i ≡ true → has b i ≡ false
+unfolding touches
+touches-has [] b t i h = absurd (false≢true h)
+touches-has (x ∷ a) [] t i h = refl
+touches-has (x ∷ a) (y ∷ b) t zero h = and-right-false x y h (or-parts (x && y) (touches a b) t .0)
+touches-has (x ∷ a) (y ∷ b) t (suc i) h = touches-has a b (or-parts (x && y) (touches a b) t .1) i h
+
+-- pieces that a set does not touch can be taken away from around it
+pub within-less : (a b s : Some) → touches a b ≡ false → within a (less s b) ≡ within a s
+within-less a b s t =
+    same-test (within a (less s b)) (within a s)
+    (λ w. within-trans a (less s b) s w (less-within s b))
+    (λ w. has-within a (less s b) (λ i h. less-in s b i (within-has a s w i h) (touches-has a b t i h)))

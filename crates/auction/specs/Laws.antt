@@ -1,8 +1,10 @@
 -- Laws beyond what is promised, on which a solver rests. Each is a statement, a type whose proof is owed. Assumes nothing.
 use mathlib.Core.Path.{_≡_}
+use mathlib.Core.Logic.{_≢_}
 use mathlib.Core.Bool.{Bool, true, false, not, _&&_, _||_}
 use mathlib.Core.List.{List, [], _∷_, _++_}
 use Prim.Native.Nat.{ℕ, zero, suc, _+_, _-_, _≤_, _<_}
+use lib.Dec.{eqb}
 use lib.ListN.{length, getD, set}
 use Rattle.auction.specs.Bids.{pick, Some, within, less, all, Bid, Bids, no-bid, with-some, best, choice, without, pays}
 use Rattle.auction.specs.Promise.{raised}
@@ -12,3 +14,72 @@ unfoldable pub Raising-keeps-place : Type 0
 Raising-keeps-place =
     (bss : List Bids) (i j x : ℕ) (free : Some) → i < length bss → getD (choice bss free) i 0 ≡ suc j →
     getD (choice (set bss i (raised (getD bss i []) j x)) free) i 0 ≡ suc j
+
+-- any one bidder may be asked first, and the others settled with what it leaves
+unfoldable pub Any-first : Type 0
+Any-first = (bss : List Bids) (i : ℕ) (free : Some) → best bss free ≡ with-some (getD bss i []) free (best (without bss i))
+
+-- the best of two groups of bidders is the most, over all ways to part the free pieces between them, of the sum of their bests:
+-- no way to part them comes to more, and one comes to as much
+unfoldable pub Two-groups : Type 0
+Two-groups =
+    (bss css : List Bids) (free : Some) →
+    ((s : Some) → within s free ≡ true → best bss s + best css (less free s) ≤ best (bss ++ css) free)
+    × ((s : Some) × (within s free ≡ true) × (best bss s + best css (less free s) ≡ best (bss ++ css) free))
+
+-- do two sets share a piece
+unfoldable pub touches : Some → Some → Bool
+touches [] ys = false
+touches (x ∷ xs) [] = false
+touches (x ∷ xs) (y ∷ ys) = (x && y) || touches xs ys
+
+-- the pieces of a bid, by its bidder and its place; none where there is no such bid
+abbrev pub pieces-of : List Bids → ℕ → ℕ → Some
+pieces-of bss i a = getD (getD bss i []) a no-bid .on
+
+-- pieces that nobody wants can be left out: that changes nothing of what it comes to, of what is taken or of what is paid
+unfoldable pub Unwanted-pieces : Type 0
+Unwanted-pieces =
+    (bss : List Bids) (free unwanted : Some) → ((i a : ℕ) → touches (pieces-of bss i a) unwanted ≡ false) →
+    (best bss (less free unwanted) ≡ best bss free)
+    × (choice bss (less free unwanted) ≡ choice bss free)
+    × ((i : ℕ) → pays bss (less free unwanted) i ≡ pays bss free i)
+
+-- a group is a test of the bidders, by their numbers. Only those in it bid, each under its own number; the others bid nothing
+unfoldable pub only : (ℕ → Bool) → List Bids → List Bids
+only group [] = []
+only group (bs ∷ bss) = pick (group 0) bs [] ∷ only (λ i. group (suc i)) bss
+
+abbrev pub outside : (ℕ → Bool) → ℕ → Bool
+outside group i = not (group i)
+
+-- no bid of one in the group shares a piece with a bid of one outside
+unfoldable pub Apart : (ℕ → Bool) → List Bids → Type 0
+Apart group bss = (i j a c : ℕ) → group i ≡ true → group j ≡ false → touches (pieces-of bss i a) (pieces-of bss j c) ≡ false
+
+-- of one bidder, that two lists of bids give it the same bid, ties included, for the same payment
+unfoldable pub Same-for : List Bids → List Bids → Some → ℕ → Type 0
+Same-for bss css free i = (getD (choice bss free) i 0 ≡ getD (choice css free) i 0) × (pays bss free i ≡ pays css free i)
+
+-- bidders whose pieces nobody else wants are settled by themselves, and so are the others, wherever they stand in the list
+unfoldable pub Settled-apart : Type 0
+Settled-apart =
+    (group : ℕ → Bool) (bss : List Bids) (free : Some) → Apart group bss →
+    (best bss free ≡ best (only group bss) free + best (only (outside group) bss) free)
+    × ((i : ℕ) → group i ≡ true → Same-for bss (only group bss) free i)
+    × ((i : ℕ) → group i ≡ false → Same-for bss (only (outside group) bss) free i)
+
+-- the same of many groups: each bidder is in the group with its number, and bids of two groups share no piece
+unfoldable pub summed : ℕ → (ℕ → ℕ) → ℕ
+summed zero f = 0
+summed (suc m) f = summed m f + f m
+
+abbrev pub numbered : (ℕ → ℕ) → ℕ → ℕ → Bool
+numbered group-of g i = eqb (group-of i) g
+
+unfoldable pub Many-groups : Type 0
+Many-groups =
+    (group-of : ℕ → ℕ) (groups : ℕ) (bss : List Bids) (free : Some) → ((i : ℕ) → i < length bss → group-of i < groups) →
+    ((i j a c : ℕ) → group-of i ≢ group-of j → touches (pieces-of bss i a) (pieces-of bss j c) ≡ false) →
+    (best bss free ≡ summed groups (λ g. best (only (numbered group-of g) bss) free))
+    × ((i : ℕ) → Same-for bss (only (numbered group-of (group-of i)) bss) free i)
