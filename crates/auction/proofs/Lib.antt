@@ -8,3 +8,4 @@ pub mod Raising
 pub mod HouseLaws
 pub mod Sealed
 pub mod Parting
+pub mod Groups
