@@ -43,13 +43,13 @@ module _ (s t : Some) (f g : Some → ℕ) (more : ℕ) where
   unfolding with-some
   some-alike [] a = ap f (sym (less-nothing s)) ∙ a .left 0 ∙ ap (λ (x : Some). g x + more) (less-nothing t)
   some-alike (b ∷ bs) a =
-    rw (a .fit 0, with-bid-alike b bs a, some-alike bs (later b bs a)) (larger-plus (fits b t) (with-bid b t g) (with-some bs t g) more)
+      rw (a .fit 0, with-bid-alike b bs a, some-alike bs (later b bs a)) (larger-plus (fits b t) (with-bid b t g) (with-some bs t g) more)
 
   good-alike : (bs : Bids) (most i : ℕ) → Alike bs → first-good bs s f (most + more) i ≡ first-good bs t g most i
   unfolding first-good
   good-alike [] most i a = refl
   good-alike (b ∷ bs) most i a =
-    rw (a .fit 0, with-bid-alike b bs a, eqb-plus (with-bid b t g) most more, good-alike bs most (suc i) (later b bs a)) refl
+      rw (a .fit 0, with-bid-alike b bs a, eqb-plus (with-bid b t g) most more, good-alike bs most (suc i) (later b bs a)) refl
 
 -- Pieces that nobody wants
 
@@ -59,9 +59,10 @@ Unwanted a bss = (i c : ℕ) → touches (pieces-of bss i c) a ≡ false
 module _ (bs : Bids) (bss : List Bids) (free a : Some) (u : Unwanted a (bs ∷ bss)) where
   unwanted-alike : ((f : Some) → best bss (less f a) ≡ best bss f) → Alike (less free a) free (best bss) (best bss) 0 bs
   unfolding Unwanted
-  unwanted-alike same = record
-    { fit = λ j. within-less (getD bs j no-bid .on) a free (u 0 j)
-    ; left = λ j. ap (best bss) (less-comm free a (getD bs j no-bid .on)) ∙ same (less free (getD bs j no-bid .on)) ∙ sym (add-zero (best bss (less free (getD bs j no-bid .on)))) }
+  unwanted-alike same = record {
+    fit = λ j. within-less (getD bs j no-bid .on) a free (u 0 j);
+    left = λ j. ap (best bss) (less-comm free a (getD bs j no-bid .on)) ∙ same (less free (getD bs j no-bid .on)) ∙ sym (add-zero (best bss (less free (getD bs j no-bid .on))));
+  }
 
 later-unwanted : (a : Some) (bs : Bids) (bss : List Bids) → Unwanted a (bs ∷ bss) → Unwanted a bss
 unfolding Unwanted
@@ -76,7 +77,7 @@ best-unwanted (bs ∷ bss) free a u =
     ∙ add-zero (with-some bs free (best bss))
 
 head-unwanted : (bs : Bids) (bss : List Bids) (free a : Some) → Unwanted a (bs ∷ bss) →
-  first-good bs (less free a) (best bss) (best (bs ∷ bss) (less free a)) 0 ≡ first-good bs free (best bss) (best (bs ∷ bss) free) 0
+    first-good bs (less free a) (best bss) (best (bs ∷ bss) (less free a)) 0 ≡ first-good bs free (best bss) (best (bs ∷ bss) free) 0
 head-unwanted bs bss free a u =
     ap (λ (m : ℕ). first-good bs (less free a) (best bss) m 0) (best-unwanted (bs ∷ bss) free a u ∙ sym (add-zero (best (bs ∷ bss) free)))
     ∙ good-alike (less free a) free (best bss) (best bss) 0 bs (best (bs ∷ bss) free) 0
@@ -119,19 +120,20 @@ unwanted-pieces = λ bss free a u. (best-unwanted bss free a u, choice-unwanted 
 
 -- one bidder before others of whom some want none of its pieces: those count as if it had not been asked
 module _ (bs : Bids) (free : Some) (f inside others : Some → ℕ) (split : (x : Some) → f x ≡ inside x + others x)
-  (kept : (j : ℕ) → others (less free (getD bs j no-bid .on)) ≡ others free) where
+    (kept : (j : ℕ) → others (less free (getD bs j no-bid .on)) ≡ others free) where
   split-alike : Alike free free f inside (others free) bs
-  split-alike = record
-    { fit = λ j. refl
-    ; left = λ j. split (less free (getD bs j no-bid .on)) ∙ ap (λ (n : ℕ). inside (less free (getD bs j no-bid .on)) + n) (kept j) }
+  split-alike = record {
+    fit = λ j. refl;
+    left = λ j. split (less free (getD bs j no-bid .on)) ∙ ap (λ (n : ℕ). inside (less free (getD bs j no-bid .on)) + n) (kept j);
+  }
 
   some-split : with-some bs free f ≡ with-some bs free inside + others free
   some-split = some-alike free free f inside (others free) bs split-alike
 
   good-split : first-good bs free f (with-some bs free f) 0 ≡ first-good bs free inside (with-some bs free inside) 0
   good-split =
-    ap (λ (m : ℕ). first-good bs free f m 0) some-split
-    ∙ good-alike free free f inside (others free) bs (with-some bs free inside) 0 split-alike
+      ap (λ (m : ℕ). first-good bs free f m 0) some-split
+      ∙ good-alike free free f inside (others free) bs (with-some bs free inside) 0 split-alike
 
 only-at : (group : ℕ → Bool) (bss : List Bids) (i : ℕ) → getD (only group bss) i [] ≡ pick (group i) (getD bss i []) []
 unfolding only
@@ -144,7 +146,7 @@ only-at group (bs ∷ bss) zero = refl
 only-at group (bs ∷ bss) (suc i) = only-at (λ j. group (suc j)) bss i
 
 unwanted-only : (group : ℕ → Bool) (bss : List Bids) (a : Some) → ((i c : ℕ) → group i ≡ true → touches (pieces-of bss i c) a ≡ false) →
-  Unwanted a (only group bss)
+    Unwanted a (only group bss)
 unfolding Unwanted touches
 unwanted-only group bss a u = λ i c. ap (λ (bs : Bids). touches (getD bs c no-bid .on) a) (only-at group bss i) ∙ go i c (group i) refl
   where
@@ -169,8 +171,8 @@ module _ (group : ℕ → Bool) (bs : Bids) (bss : List Bids) (h : Apart group (
   unwanted-outside : group 0 ≡ true → (j : ℕ) → Unwanted (getD bs j no-bid .on) (only (outside (next group)) bss)
   unfolding Apart
   unwanted-outside t j =
-    unwanted-only (outside (next group)) bss (getD bs j no-bid .on)
-    (λ i c o. touches-comm (pieces-of bss i c) (getD bs j no-bid .on) ∙ h 0 (suc i) j c t (not-true (group (suc i)) o))
+      unwanted-only (outside (next group)) bss (getD bs j no-bid .on)
+      (λ i c o. touches-comm (pieces-of bss i c) (getD bs j no-bid .on) ∙ h 0 (suc i) j c t (not-true (group (suc i)) o))
 
   unwanted-inside : group 0 ≡ false → (j : ℕ) → Unwanted (getD bs j no-bid .on) (only (next group) bss)
   unfolding Apart
@@ -181,27 +183,29 @@ module _ (group : ℕ → Bool) (bs : Bids) (bss : List Bids) (h : Apart group (
   given-unwanted t zero = unwanted-only (next group) bss [] (λ i c o. touches-nothing (pieces-of bss i c))
   given-unwanted t (suc j) = unwanted-inside t j
 
-best-settled : (bss : List Bids) (group : ℕ → Bool) (free : Some) → Apart group bss →
-  best bss free ≡ best (only group bss) free + best (only (outside group) bss) free
+pub best-settled : (bss : List Bids) (group : ℕ → Bool) (free : Some) → Apart group bss →
+    best bss free ≡ best (only group bss) free + best (only (outside group) bss) free
 unfolding best only with-some
 best-settled [] group free h = refl
 best-settled (bs ∷ bss) group free h = go (group 0) refl (λ f. best-settled bss (next group) f (apart-next group bs bss h))
   where
     inside : Some → ℕ
     inside = best (only (next group) bss)
+
     others : Some → ℕ
     others = best (only (outside (next group)) bss)
+
     go : (t : Bool) → group 0 ≡ t → ((f : Some) → best bss f ≡ inside f + others f) →
-      with-some bs free (best bss) ≡ with-some (pick t bs []) free inside + with-some (pick (not t) bs []) free others
+        with-some bs free (best bss) ≡ with-some (pick t bs []) free inside + with-some (pick (not t) bs []) free others
     go true e split = some-split bs free (best bss) inside others split (λ j. best-unwanted _ free _ (unwanted-outside group bs bss h e j))
     go false e split =
-      some-split bs free (best bss) others inside (λ f. split f ∙ add-comm (inside f) (others f)) (λ j. best-unwanted _ free _ (unwanted-inside group bs bss h e j))
-      ∙ add-comm (with-some bs free others) (inside free)
+        some-split bs free (best bss) others inside (λ f. split f ∙ add-comm (inside f) (others f)) (λ j. best-unwanted _ free _ (unwanted-inside group bs bss h e j))
+        ∙ add-comm (with-some bs free others) (inside free)
 
 -- the first bidder, in the group, takes the bid that it takes with the group alone
 first-settled : (group : ℕ → Bool) (bs : Bids) (bss : List Bids) (free : Some) → Apart group (bs ∷ bss) → group 0 ≡ true →
-  first-good bs free (best bss) (with-some bs free (best bss)) 0
-  ≡ first-good bs free (best (only (next group) bss)) (with-some bs free (best (only (next group) bss))) 0
+    first-good bs free (best bss) (with-some bs free (best bss)) 0
+    ≡ first-good bs free (best (only (next group) bss)) (with-some bs free (best (only (next group) bss))) 0
 first-settled group bs bss free h e =
     good-split bs free (best bss) (best (only (next group) bss)) (best (only (outside (next group)) bss))
     (λ f. best-settled bss (next group) f (apart-next group bs bss h))
@@ -211,7 +215,7 @@ abbrev first-of : Bids → Some → (Some → ℕ) → ℕ
 first-of bs free f = first-good bs free f (with-some bs free f) 0
 
 choice-settled : (bss : List Bids) (group : ℕ → Bool) (free : Some) → Apart group bss → (i : ℕ) → group i ≡ true →
-  getD (choice bss free) i 0 ≡ getD (choice (only group bss) free) i 0
+    getD (choice bss free) i 0 ≡ getD (choice (only group bss) free) i 0
 unfolding choice only best first-good given
 choice-settled [] group free h i m = refl
 choice-settled (bs ∷ bss) group free h zero m =
@@ -220,22 +224,24 @@ choice-settled (bs ∷ bss) group free h (suc i) m = go (group 0) refl (λ f. ch
   where
     later : List Bids
     later = only (next group) bss
+
     c : ℕ
     c = first-of bs free (best bss)
+
     go : (t : Bool) → group 0 ≡ t → ((f : Some) → getD (choice bss f) i 0 ≡ getD (choice later f) i 0) →
-      getD (choice bss (less free (given bs c .on))) i 0
-      ≡ getD (choice later (less free (given (pick t bs []) (first-of (pick t bs []) free (best later)) .on))) i 0
+        getD (choice bss (less free (given bs c .on))) i 0
+        ≡ getD (choice later (less free (given (pick t bs []) (first-of (pick t bs []) free (best later)) .on))) i 0
     go true e same = same _ ∙ ap (λ (d : ℕ). getD (choice later (less free (given bs d .on))) i 0) (first-settled group bs bss free h e)
     go false e same =
-      same _
-      ∙ ap (λ (ds : List ℕ). getD ds i 0) (choice-unwanted later free (given bs c .on) (given-unwanted group bs bss h e c))
-      ∙ ap (λ (s : Some). getD (choice later s) i 0) (sym (less-nothing free))
+        same _
+        ∙ ap (λ (ds : List ℕ). getD ds i 0) (choice-unwanted later free (given bs c .on) (given-unwanted group bs bss h e c))
+        ∙ ap (λ (s : Some). getD (choice later s) i 0) (sym (less-nothing free))
 
 -- bids of which some bidders' are left out stand apart as before
-Fewer : List Bids → List Bids → Type 0
+unfoldable pub Fewer : List Bids → List Bids → Type 0
 Fewer css bss = (j : ℕ) → (getD css j [] ≡ getD bss j []) ⊎ (getD css j [] ≡ [])
 
-fewer-only : (group : ℕ → Bool) (bss : List Bids) → Fewer (only group bss) bss
+pub fewer-only : (group : ℕ → Bool) (bss : List Bids) → Fewer (only group bss) bss
 unfolding Fewer
 fewer-only group bss = λ j. go j (group j) (only-at group bss j)
   where
@@ -244,19 +250,20 @@ fewer-only group bss = λ j. go j (group j) (only-at group bss j)
     go j false e = inr e
 
 touches-fewer : (bss css : List Bids) → Fewer css bss → (i j a c : ℕ) → touches (pieces-of bss i a) (pieces-of bss j c) ≡ false →
-  touches (pieces-of css i a) (pieces-of css j c) ≡ false
+    touches (pieces-of css i a) (pieces-of css j c) ≡ false
 unfolding Fewer touches
 touches-fewer bss css less-bids i j a c t = go (less-bids i) (less-bids j)
   where
     at : Bids → Bids → Bool
     at bs ds = touches (getD bs a no-bid .on) (getD ds c no-bid .on)
+
     go : (getD css i [] ≡ getD bss i []) ⊎ (getD css i [] ≡ []) → (getD css j [] ≡ getD bss j []) ⊎ (getD css j [] ≡ []) →
-      touches (pieces-of css i a) (pieces-of css j c) ≡ false
+        touches (pieces-of css i a) (pieces-of css j c) ≡ false
     go (inl e) (inl f) = ap₂ at e f ∙ t
     go (inl e) (inr f) = ap (at (getD css i [])) f ∙ touches-nothing (pieces-of css i a)
     go (inr e) f = ap (λ (bs : Bids). at bs (getD css j [])) e
 
-apart-fewer : (group : ℕ → Bool) (bss css : List Bids) → Fewer css bss → Apart group bss → Apart group css
+pub apart-fewer : (group : ℕ → Bool) (bss css : List Bids) → Fewer css bss → Apart group bss → Apart group css
 unfolding Apart
 apart-fewer group bss css less-bids h = λ i j a c m n. touches-fewer bss css less-bids i j a c (h i j a c m n)
 
@@ -281,25 +288,27 @@ outside-without group (bs ∷ bss) (suc i) m = ap (λ (xs : List Bids). pick (no
 module _ (bss : List Bids) (group : ℕ → Bool) (free : Some) (h : Apart group bss) (i : ℕ) (m : group i ≡ true) where
   price-settled : taken bss free i .price ≡ taken (only group bss) free i .price
   price-settled =
-    ap₂ (λ (bs : Bids) (c : ℕ). given bs c .price)
-    (sym (only-at group bss i ∙ ap (λ (t : Bool). pick t (getD bss i []) []) m))
-    (choice-settled bss group free h i m)
+      ap₂ (λ (bs : Bids) (c : ℕ). given bs c .price)
+      (sym (only-at group bss i ∙ ap (λ (t : Bool). pick t (getD bss i []) []) m))
+      (choice-settled bss group free h i m)
 
   others-settled : best (without bss i) free ≡ best (without (only group bss) i) free + best (only (outside group) bss) free
   unfolding Fewer
   others-settled =
-    best-settled (without bss i) group free (apart-fewer group bss (without bss i) (without-at bss i) h)
-    ∙ ap₂ (λ (xs ys : List Bids). best xs free + best ys free) (only-without group bss i) (outside-without group bss i m)
+      best-settled (without bss i) group free (apart-fewer group bss (without bss i) (without-at bss i) h)
+      ∙ ap₂ (λ (xs ys : List Bids). best xs free + best ys free) (only-without group bss i) (outside-without group bss i m)
 
   pays-settled : pays bss free i ≡ pays (only group bss) free i
   pays-settled = omega (arith, price-settled, others-settled, best-settled bss group free h, taken-comes (only group bss) free i)
 
-  same-settled : Same-for bss (only group bss) free i
+  pub same-settled : Same-for bss (only group bss) free i
   unfolding Same-for
   same-settled = (choice-settled bss group free h i m, pays-settled)
 
 pub settled-apart : Settled-apart
 unfolding Settled-apart
-settled-apart = λ group bss free h.
-    (best-settled bss group free h, same-settled bss group free h,
-    λ i n. same-settled bss (outside group) free (apart-outside group bss h) i (not-from-false (group i) n))
+settled-apart = λ group bss free h. (
+  best-settled bss group free h,
+  same-settled bss group free h,
+  λ i n. same-settled bss (outside group) free (apart-outside group bss h) i (not-from-false (group i) n),
+)

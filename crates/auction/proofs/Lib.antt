@@ -9,3 +9,5 @@ pub mod HouseLaws
 pub mod Sealed
 pub mod Parting
 pub mod Groups
+pub mod ManyGroups
+pub mod Worked

@@ -23,14 +23,14 @@ parted-below [] css free s w = omega (arith, best-mono css (less free s) free (l
 parted-below (bs ∷ bss) css free s w = go (first-good bs s (best bss) (with-some bs s (best bss)) 0) (some-got s (best bss) bs) (parted-below bss css)
   where
     go : (c : ℕ) → Got s (best bss) bs c →
-      ((f t : Some) → within t f ≡ true → best bss t + best css (less f t) ≤ best (bss ++ css) f) →
-      with-some bs s (best bss) + best css (less free s) ≤ with-some bs free (best (bss ++ css))
+        ((f t : Some) → within t f ≡ true → best bss t + best css (less f t) ≤ best (bss ++ css) f) →
+        with-some bs s (best bss) + best css (less free s) ≤ with-some bs free (best (bss ++ css))
     go c (l, v, e) later =
-      let b : Bid = given bs c in
-      let rest : best bss (less s (b .on)) + best css (less (less free (b .on)) (less s (b .on))) ≤ best (bss ++ css) (less free (b .on)) =
+        let b : Bid = given bs c in
+        let rest : best bss (less s (b .on)) + best css (less (less free (b .on)) (less s (b .on))) ≤ best (bss ++ css) (less free (b .on)) =
         later (less free (b .on)) (less s (b .on)) (less-mono s free (b .on) w) in
-      let same : best css (less (less free (b .on)) (less s (b .on))) ≡ best css (less free s) = ap (best css) (less-less free (b .on) s v) in
-      omega (arith, some-ge free (best (bss ++ css)) bs c (within-trans (b .on) s free v w))
+        let same : best css (less (less free (b .on)) (less s (b .on))) ≡ best css (less free s) = ap (best css) (less-less free (b .on) s v) in
+        omega (arith, some-ge free (best (bss ++ css)) bs c (within-trans (b .on) s free v w))
 
 -- there is a part of the pieces for the first group with which the two come to the best of both
 abbrev Parted : List Bids → List Bids → Some → Type 0
@@ -44,20 +44,21 @@ parted-got (bs ∷ bss) css free = go (first-good bs free both (with-some bs fre
   where
     both : Some → ℕ
     both = best (bss ++ css)
+
     go : (c : ℕ) → Got free both bs c → ((f : Some) → Parted bss css f) →
-      (s : Some) × (within s free ≡ true) × (with-some bs s (best bss) + best css (less free s) ≡ with-some bs free both)
+        (s : Some) × (within s free ≡ true) × (with-some bs s (best bss) + best css (less free s) ≡ with-some bs free both)
     go c (l, v, e) later =
-      let b : Bid = given bs c in
-      let left : Some = less free (b .on) in
-      let (t, in-left, comes) = later left in
-      let theirs : Some = less left t in
-      let s : Some = less free theirs in
-      let back : best css (less free s) ≡ best css theirs = ap (best css) (less-back free (b .on) t) in
-      let b-in : fits b s ≡ true = within-swap (b .on) theirs free v (less-within left t) in
-      let others : best bss t ≤ best bss (less left theirs) = best-mono bss t (less left theirs) (within-back t left in-left) in
-      let same : best bss (less s (b .on)) ≡ best bss (less left theirs) = ap (best bss) (less-comm free theirs (b .on)) in
-      let below : with-some bs s (best bss) + best css (less free s) ≤ with-some bs free both = parted-below (bs ∷ bss) css free s (less-within free theirs) in
-      (s, less-within free theirs, omega (arith, some-ge s (best bss) bs c b-in))
+        let b : Bid = given bs c in
+        let left : Some = less free (b .on) in
+        let (t, in-left, comes) = later left in
+        let theirs : Some = less left t in
+        let s : Some = less free theirs in
+        let back : best css (less free s) ≡ best css theirs = ap (best css) (less-back free (b .on) t) in
+        let b-in : fits b s ≡ true = within-swap (b .on) theirs free v (less-within left t) in
+        let others : best bss t ≤ best bss (less left theirs) = best-mono bss t (less left theirs) (within-back t left in-left) in
+        let same : best bss (less s (b .on)) ≡ best bss (less left theirs) = ap (best bss) (less-comm free theirs (b .on)) in
+        let below : with-some bs s (best bss) + best css (less free s) ≤ with-some bs free both = parted-below (bs ∷ bss) css free s (less-within free theirs) in
+        (s, less-within free theirs, omega (arith, some-ge s (best bss) bs c b-in))
 
 pub two-groups : Two-groups
 unfolding Two-groups

@@ -1,7 +1,8 @@
 // What the auction promises: each function here carries one theorem on its contract, and computes nothing. docs/THEOREMS.md is their index.
 ghost use Rattle.auction.specs.Promise.{Truth-is-best, Sealed, Best-of-all, Not-more-than-bid, Never-loses, Raising-keeps};
 ghost use Rattle.auction.specs.Promise.{Closed-stays, Lots-apart, Last-counts, Turned-away};
-ghost use Rattle.auction.specs.Laws.{Raising-keeps-place};
+ghost use Rattle.auction.specs.Laws.{Raising-keeps-place, Any-first, Two-groups, Unwanted-pieces, Settled-apart, Many-groups};
+ghost use Rattle.auction.specs.Worked.{All-come-out};
 
 // Whatever the others bid, no bids gain a bidder more than its true ones do.
 pub fn nobody_gains_by_lying()
@@ -56,4 +57,34 @@ pub fn the_last_bids_count()
 // A call that is turned away changes no later answer.
 pub fn a_refused_call_changes_nothing()
     ensures { λ _. ⌜ Turned-away ⌝ }
+{}
+
+// The best of all is had with any one bidder asked first.
+pub fn any_bidder_may_be_asked_first()
+    ensures { λ _. ⌜ Any-first ⌝ }
+{}
+
+// The best of two groups is the most that the sum of their bests comes to, over all ways to part the free pieces between them.
+pub fn two_groups_part_the_pieces()
+    ensures { λ _. ⌜ Two-groups ⌝ }
+{}
+
+// Taking away pieces that no bid names changes neither welfare nor allocation nor payments.
+pub fn pieces_nobody_wants_do_not_matter()
+    ensures { λ _. ⌜ Unwanted-pieces ⌝ }
+{}
+
+// A group of bidders whose pieces nobody else wants is settled by itself: welfare adds up, and each gets and pays the same, ties included.
+pub fn groups_apart_are_settled_apart()
+    ensures { λ _. ⌜ Settled-apart ⌝ }
+{}
+
+// The same of any number of groups, given by a number for each bidder.
+pub fn many_groups_are_settled_apart()
+    ensures { λ _. ⌜ Many-groups ⌝ }
+{}
+
+// The worked lots come out as their table says.
+pub fn worked_lots_come_out()
+    ensures { λ _. ⌜ All-come-out ⌝ }
 {}
