@@ -1,14 +1,13 @@
 -- All bidders: the best of what is free, any one bidder asked first, and what the bid that is taken comes to.
 -- Assumes nothing.
 use mathlib.Core.Path.{_≡_, refl, sym, _∙_, ap, subst, fun-ext}
-use mathlib.Core.Bool.{Bool, true, false, _&&_}
+use mathlib.Core.Bool.{true}
 use mathlib.Core.List.{List, [], _∷_}
-use Prim.Native.Nat.{ℕ, zero, suc, _+_, _-_, _≤_, _<_}
-use native.Mathlib.Nat.{zero-add}
+use Prim.Native.Nat.{ℕ, zero, suc, _+_, _≤_}
 use native.Mathlib.Omega.{arith}
-use lib.ListN.{length, getD, set}
-use Rattle.auction.specs.Bids.{pick, Some, within, less, Bid, Bids, no-bid, with-some, best, first-good, given, choice, without, taken, pays}
-use Rattle.auction.proofs.Sets.{less-nothing, less-within, less-mono, less-comm, within-trans, within-swap}
+use lib.ListN.{getD}
+use Rattle.auction.specs.Bids.{Some, within, less, Bid, Bids, with-some, best, first-good, given, choice, without, taken, pays}
+use Rattle.auction.proofs.Sets.{less-within, less-comm, within-trans, within-swap}
 use Rattle.auction.proofs.OneBidder.{with-bid, fits, some-ge, some-got, Got, got-none, some-mono, some-swap, some-none}
 
 pub best-mono : (bss : List Bids) (s t : Some) → within s t ≡ true → best bss s ≤ best bss t

@@ -1,16 +1,16 @@
 -- What is given away: the choice fits, comes to the best, and no other way that fits comes to more.
 -- Assumes nothing.
-use mathlib.Core.Path.{_≡_, refl, sym, _∙_, ap, subst}
-use mathlib.Core.Bool.{Bool, true, false, _&&_}
+use mathlib.Core.Path.{_≡_, refl}
+use mathlib.Core.Bool.{true, _&&_}
 use mathlib.Core.List.{List, [], _∷_}
-use Prim.Native.Nat.{ℕ, zero, suc, _+_, _≤_, _<_}
+use Prim.Native.Nat.{ℕ, _≤_}
 use native.Mathlib.Omega.{arith}
 use lib.Dec.{leb}
 use lib.ListN.{length}
 use Rattle.std.proofs.shelf.Tests.{and-parts, and-from, le-leb}
-use Rattle.auction.specs.Bids.{Some, within, less, Bid, Bids, best, first-good, given, choice}
+use Rattle.auction.specs.Bids.{Some, less, Bids, best, first-good, given, choice}
 use Rattle.auction.specs.Promise.{fits-all, sum-of, Best-of-all}
-use Rattle.auction.proofs.OneBidder.{fits, some-ge, some-got, some-none}
+use Rattle.auction.proofs.OneBidder.{fits, some-ge, some-got}
 
 choice-fits : (bss : List Bids) (free : Some) → fits-all bss free (choice bss free) ≡ true
 unfolding fits-all choice best

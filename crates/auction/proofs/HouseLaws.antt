@@ -1,17 +1,18 @@
 -- Laws of the house: closed lots stay, lots stand by themselves, the last bids count, and what is turned away changes nothing.
 -- Assumes nothing.
-use mathlib.Core.Path.{_≡_, refl, sym, _∙_, ap, subst}
+use mathlib.Core.Path.{_≡_, refl, sym, _∙_, ap}
 use mathlib.Core.Logic.{_⊎_, inl, inr, _≢_}
-use mathlib.Core.Bool.{Bool, true, false, not, _&&_, _||_}
-use mathlib.Core.List.{List, [], _∷_, _++_}
-use Prim.Native.Nat.{ℕ, zero, suc, _+_, _≤_, _<_}
+use mathlib.Core.Bool.{Bool, true, false}
+use mathlib.Core.List.{List, [], _∷_}
+use Prim.Native.Nat.{ℕ, zero, suc, _≤_, _<_}
 use native.Mathlib.Omega.{arith}
-use lib.Dec.{ltb, leb, eqb}
+use lib.Dec.{ltb}
 use lib.ListN.{length, getD, set}
-use Rattle.std.proofs.shelf.Lists.{getD-set-same, getD-set-other, getD-append-left, set-set, length-set, length-append}
-use Rattle.std.proofs.shelf.Tests.{cases-eq, ltb-true, ltb-false, leb-true, eqb-true, eqb-false, ne-eqb, eq-eqb, false≢true}
-use Rattle.auction.specs.Bids.{pick, Some, all, Bid, Bids}
-use Rattle.auction.specs.House.{Call, opens, bids, ticks, my-bids, result, brings, lot-is, garbled, Answer, Limits, Lot, House, the-lot, all-in, nobody, good-call, turned-by, turned, changed, after, answers}
+use Rattle.std.proofs.shelf.Lists.{getD-set-same, getD-set-other, getD-append-left, set-set, length-set}
+use Rattle.std.proofs.shelf.Tests.{cases-eq, ltb-true, ne-eqb, eq-eqb}
+use Rattle.auction.specs.Bids.{pick, Bids}
+use Rattle.auction.specs.House.{Call, opens, bids, ticks, my-bids, result, brings, lot-is, garbled, Limits, Lot, House, the-lot, all-in, good-call, turned-by, turned}
+use Rattle.auction.specs.House.{changed, after, answers}
 use Rattle.auction.specs.Promise.{Closed-stays, Lots-apart, Last-counts, Turned-away}
 
 pub after-taken : (l : Limits) (h : House) (c : Call) → turned l h c ≡ 0 → after l h c ≡ changed l h c

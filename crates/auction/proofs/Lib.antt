@@ -8,6 +8,7 @@ pub mod Raising
 pub mod HouseLaws
 pub mod Sealed
 pub mod Parting
+pub mod Unwanted
 pub mod Groups
 pub mod ManyGroups
 pub mod Worked

@@ -1,16 +1,16 @@
 -- Many groups of bidders, of which no two want a piece in common: the best is the sum of theirs, and each is settled by itself.
 -- Assumes nothing.
-use mathlib.Core.Path.{_≡_, refl, sym, _∙_, ap, ap₂, subst}
-use mathlib.Core.Logic.{_⊎_, inl, inr, _≢_}
-use mathlib.Core.Bool.{Bool, true, false, not, _&&_, _||_}
+use mathlib.Core.Path.{_≡_, refl, sym, _∙_, ap, ap₂}
+use mathlib.Core.Logic.{_≢_}
+use mathlib.Core.Bool.{Bool, true, false, not, _&&_}
 use mathlib.Core.List.{List, [], _∷_}
-use Prim.Native.Nat.{ℕ, zero, suc, _+_, _≤_, _<_}
+use Prim.Native.Nat.{ℕ, zero, suc, _+_, _<_}
 use native.Mathlib.Omega.{arith}
 use lib.Dec.{ltb, eqb}
-use lib.ListN.{length, getD}
+use lib.ListN.{length}
 use Rattle.std.proofs.shelf.Tests.{eqb-true, eqb-false, eq-eqb, ltb-true, ltb-false, lt-ltb, le-ltb, and-parts, and-from, not-true, not-from-false}
 use Rattle.auction.specs.Bids.{pick, Some, Bids, with-some, best}
-use Rattle.auction.specs.Laws.{touches, pieces-of, only, outside, Apart, Same-for, summed, numbered, Many-groups}
+use Rattle.auction.specs.Laws.{touches, pieces-of, only, outside, Apart, summed, numbered, Many-groups}
 use Rattle.auction.proofs.Sets.{same-test}
 use Rattle.auction.proofs.Groups.{best-settled, same-settled, fewer-only, apart-fewer}
 

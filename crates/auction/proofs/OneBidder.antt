@@ -3,13 +3,13 @@
 use mathlib.Core.Path.{_≡_, refl, sym, _∙_, ap, subst}
 use mathlib.Core.Logic.{_⊎_, inl, inr}
 use mathlib.Core.Bool.{Bool, true, false, _&&_}
-use mathlib.Core.List.{List, [], _∷_}
+use mathlib.Core.List.{[], _∷_}
 use Prim.Native.Nat.{ℕ, zero, suc, _+_, _≤_, _<_}
-use native.Mathlib.Nat.{zero-add, add-zero, add-suc, suc-add}
+use native.Mathlib.Nat.{zero-add, add-zero}
 use native.Mathlib.Omega.{arith}
 use lib.Dec.{ltb, eqb}
 use lib.ListN.{length, getD}
-use Rattle.std.proofs.shelf.Tests.{false≢true, both-ways, and-parts, and-from, ltb-true, ltb-false, eqb-true, eq-eqb}
+use Rattle.std.proofs.shelf.Tests.{both-ways, and-parts, and-from, ltb-true, ltb-false, eqb-true, eq-eqb}
 use Rattle.auction.specs.Bids.{pick, Some, within, less, Bid, Bids, no-bid, larger, with-some, first-good, given}
 use Rattle.auction.proofs.Sets.{less-nothing, less-within, less-mono, less-comm, within-trans, within-swap}
 

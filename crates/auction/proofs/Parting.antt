@@ -1,15 +1,14 @@
 -- Any one bidder may be asked first; and the best of two groups of bidders, over the ways to part the free pieces between them.
 -- Assumes nothing.
-use mathlib.Core.Path.{_≡_, refl, sym, _∙_, ap, subst}
-use mathlib.Core.Bool.{Bool, true, false}
+use mathlib.Core.Path.{_≡_, refl, ap}
+use mathlib.Core.Bool.{true}
 use mathlib.Core.List.{List, [], _∷_, _++_}
-use Prim.Native.Nat.{ℕ, zero, suc, _+_, _≤_, _<_}
+use Prim.Native.Nat.{ℕ, _+_, _≤_}
 use native.Mathlib.Omega.{arith}
-use lib.ListN.{length, getD}
 use Rattle.auction.specs.Bids.{Some, within, less, Bid, Bids, with-some, best, first-good, given}
 use Rattle.auction.specs.Laws.{Any-first, Two-groups}
-use Rattle.auction.proofs.Sets.{within-trans, within-swap, within-refl, less-within, less-mono, less-comm, less-nothing, less-less, less-back, within-back}
-use Rattle.auction.proofs.OneBidder.{with-bid, fits, some-ge, some-got, Got}
+use Rattle.auction.proofs.Sets.{within-trans, within-swap, less-within, less-mono, less-comm, less-nothing, less-less, less-back, within-back}
+use Rattle.auction.proofs.OneBidder.{fits, some-ge, some-got, Got}
 use Rattle.auction.proofs.Best.{best-mono, best-apart}
 
 pub any-first : Any-first

@@ -1,15 +1,15 @@
 -- What is paid: never more than was bid, nothing by who gets nothing, and never more than the pieces are worth to who bids the truth.
 -- Assumes nothing.
-use mathlib.Core.Path.{_≡_, refl, sym, _∙_, ap, subst}
+use mathlib.Core.Path.{_≡_, refl, sym, _∙_, ap}
 use mathlib.Core.Logic.{_⊎_, inl, inr}
 use mathlib.Core.Bool.{Bool, true, false}
 use mathlib.Core.List.{List, [], _∷_}
-use Prim.Native.Nat.{ℕ, zero, suc, _+_, _≤_, _<_}
+use Prim.Native.Nat.{ℕ, zero, suc, _≤_}
 use native.Mathlib.Omega.{arith}
-use lib.ListN.{length, getD}
-use Rattle.auction.specs.Bids.{pick, Some, within, all, Bid, Bids, no-bid, larger, best, given, choice, without, taken, pays}
+use lib.ListN.{getD}
+use Rattle.auction.specs.Bids.{pick, Some, within, all, Bid, Bids, no-bid, larger, given, choice, taken, pays}
 use Rattle.auction.specs.Promise.{worth, Not-more-than-bid, Never-loses}
-use Rattle.auction.proofs.Sets.{within-refl, less-nothing}
+use Rattle.auction.proofs.Sets.{within-refl}
 use Rattle.auction.proofs.OneBidder.{larger-is, fits}
 use Rattle.auction.proofs.Best.{taken-comes, others-below, pays-is}
 

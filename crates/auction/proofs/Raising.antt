@@ -2,19 +2,19 @@
 -- Assumes nothing.
 use mathlib.Core.Path.{_≡_, refl, sym, _∙_, ap, ap₂, subst}
 use mathlib.Core.Logic.{_⊎_, inl, inr, _≢_}
-use mathlib.Core.Bool.{Bool, true, false}
-use mathlib.Core.List.{List, [], _∷_}
+use mathlib.Core.Bool.{true}
+use mathlib.Core.List.{List, []}
 use Prim.Native.Nat.{ℕ, zero, suc, _+_, _≤_, _<_}
 use native.Mathlib.Nat.{add-zero}
 use native.Mathlib.Omega.{arith}
 use lib.ListN.{length, getD, set}
 use Rattle.std.proofs.shelf.Lists.{getD-set-same, getD-set-other, set-getD}
 use Rattle.std.proofs.shelf.Tests.{cases-eq}
-use Rattle.auction.specs.Bids.{Some, within, less, all, Bid, Bids, no-bid, best, with-some, given, choice, without, taken, pays}
+use Rattle.auction.specs.Bids.{Some, less, all, Bid, Bids, no-bid, best, with-some, given, choice, without, taken, pays}
 use Rattle.auction.specs.Promise.{raised, Raising-keeps}
 use Rattle.auction.specs.Laws.{Raising-keeps-place}
 use Rattle.auction.proofs.OneBidder.{fits, with-bid, some-ge, Got}
-use Rattle.auction.proofs.Best.{best-apart, taken-got, taken-comes, pays-is}
+use Rattle.auction.proofs.Best.{taken-got, pays-is}
 use Rattle.auction.proofs.Truth.{without-set}
 
 -- only the raised bid is another, and it keeps its pieces

@@ -3,17 +3,18 @@
 -- Assumes nothing.
 use mathlib.Core.Path.{_≡_, refl, sym, _∙_, ap, ap₂, subst}
 use mathlib.Core.Logic.{_⊎_, inl, inr, _≢_}
-use mathlib.Core.Bool.{Bool, true, false, not, _&&_, _||_}
+use mathlib.Core.Bool.{Bool, true, false, not, _&&_}
 use mathlib.Core.List.{List, [], _∷_, _++_}
-use Prim.Native.Nat.{ℕ, zero, suc, _+_, _≤_, _<_}
+use Prim.Native.Nat.{ℕ, zero, suc, _≤_, _<_}
 use native.Mathlib.Nat.{le-trans}
 use native.Mathlib.Omega.{arith}
 use lib.Dec.{ltb, leb, eqb}
 use lib.ListN.{length, getD, set}
 use Rattle.std.proofs.shelf.Lists.{length-set, length-append}
-use Rattle.std.proofs.shelf.Tests.{cases-eq, ltb-true, leb-true, eqb-true, eqb-false, eq-eqb, ne-eqb, and-parts, and-cases, not-true, not-false, false≢true}
-use Rattle.auction.specs.Bids.{pick, all, Bid, Bids, choice, best, pays}
-use Rattle.auction.specs.House.{Call, opens, bids, ticks, my-bids, result, brings, lot-is, garbled, Answer, refused, number, two, list, Limits, Lot, House, the-lot, nobody, paid-by, good-call, turned, place, changed, after, told, answer, answers, ran, new-house}
+use Rattle.std.proofs.shelf.Tests.{cases-eq, ltb-true, leb-true, eqb-true, eqb-false, and-parts, and-cases, not-true, not-false, false≢true}
+use Rattle.auction.specs.Bids.{pick, all, Bids, choice, best, pays}
+use Rattle.auction.specs.House.{Call, opens, bids, ticks, my-bids, result, brings, lot-is, garbled, Answer, refused, number, two, list, Limits, Lot, House, the-lot}
+use Rattle.auction.specs.House.{nobody, paid-by, good-call, turned, place, changed, after, told, answer, answers, ran, new-house}
 use Rattle.auction.specs.Promise.{others-on, but-others, answers-but, Sealed}
 use Rattle.auction.proofs.HouseLaws.{Like, turned-like, put, pick-zero, closed-kept}
 

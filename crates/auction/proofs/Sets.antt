@@ -1,9 +1,9 @@
 -- Sets of pieces: what `within` and `less` say of each piece, and the laws of both that follow piece by piece.
 -- Assumes nothing.
-use mathlib.Core.Path.{_≡_, refl, sym, _∙_, ap, ap₂, subst}
+use mathlib.Core.Path.{_≡_, refl, sym, _∙_, ap}
 use mathlib.Core.Bool.{Bool, true, false, not, _&&_, _||_}
-use mathlib.Core.List.{List, [], _∷_}
-use Prim.Native.Nat.{ℕ, zero, suc, _<_}
+use mathlib.Core.List.{[], _∷_}
+use Prim.Native.Nat.{ℕ, zero, suc}
 use lib.ListN.{length, getD}
 use Rattle.std.proofs.shelf.Tests.{false≢true, both-ways, and-parts, and-from, or-parts, not-true, not-from-false}
 use Rattle.std.proofs.shelf.Lists.{ext-getD}

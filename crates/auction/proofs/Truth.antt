@@ -2,16 +2,16 @@
 -- the payment leaves it exactly that, less what the others could have had without it, on which its own bids have no bearing.
 -- Assumes nothing.
 use mathlib.Core.Path.{_≡_, refl, sym, _∙_, ap, subst}
-use mathlib.Core.Bool.{Bool, true, false}
+use mathlib.Core.Bool.{true}
 use mathlib.Core.List.{List, [], _∷_}
-use Prim.Native.Nat.{ℕ, zero, suc, _+_, _≤_, _<_}
+use Prim.Native.Nat.{ℕ, zero, suc, _+_, _≤_}
 use native.Mathlib.Omega.{arith}
-use lib.ListN.{length, getD, set}
+use lib.ListN.{getD, set}
 use Rattle.std.proofs.shelf.Lists.{getD-set-same}
-use Rattle.auction.specs.Bids.{Some, within, less, all, Bid, Bids, no-bid, best, with-some, given, choice, without, taken, pays}
+use Rattle.auction.specs.Bids.{Some, within, less, all, Bid, Bids, best, with-some, given, choice, without, taken, pays}
 use Rattle.auction.specs.Promise.{worth, Truth-is-best}
 use Rattle.auction.proofs.Sets.{within-refl, within-trans, less-anti}
-use Rattle.auction.proofs.OneBidder.{fits, with-bid, some-ge}
+use Rattle.auction.proofs.OneBidder.{with-bid, some-ge}
 use Rattle.auction.proofs.Best.{best-mono, best-apart, taken-fits, taken-comes, pays-is}
 use Rattle.auction.proofs.Payments.{worth-ge, worth-got, Says}
 

@@ -3,10 +3,10 @@ use mathlib.Core.Path.{_≡_}
 use mathlib.Core.Logic.{_≢_}
 use mathlib.Core.Bool.{Bool, true, false, not, _&&_, _||_}
 use mathlib.Core.List.{List, [], _∷_, _++_}
-use Prim.Native.Nat.{ℕ, zero, suc, _+_, _-_, _≤_, _<_}
+use Prim.Native.Nat.{ℕ, zero, suc, _+_, _≤_, _<_}
 use lib.Dec.{eqb}
 use lib.ListN.{length, getD, set}
-use Rattle.auction.specs.Bids.{pick, Some, within, less, all, Bid, Bids, no-bid, with-some, best, choice, without, pays}
+use Rattle.auction.specs.Bids.{pick, Some, within, less, Bids, no-bid, with-some, best, choice, without, pays}
 use Rattle.auction.specs.Promise.{raised}
 
 -- raising the price of a bid that was taken, not only the same pieces are got for the same payment: the same bid is taken, by its place

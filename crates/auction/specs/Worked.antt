@@ -1,8 +1,8 @@
 -- Worked lots: bids with what they come to, which are taken and what is paid. Assumes nothing: these are definitions, and one statement whose proof is owed.
 use mathlib.Core.Path.{_≡_}
-use mathlib.Core.Bool.{Bool, true, false}
+use mathlib.Core.Bool.{true, false}
 use mathlib.Core.List.{List, [], _∷_}
-use Prim.Native.Nat.{ℕ, zero, suc, _<_}
+use Prim.Native.Nat.{ℕ, suc, _<_}
 use lib.ListN.{length, getD}
 use Rattle.auction.specs.Bids.{Some, all, Bid, Bids, best, choice, pays}
 
