@@ -111,7 +111,7 @@ module _ (free : Some) (rest : Some → ℕ) where
   abbrev pub Got : Bids → ℕ → Type 0
   Got bs c = (c ≤ length bs) × (fits (given bs c) free ≡ true) × (with-bid (given bs c) free rest ≡ with-some bs free rest)
 
-  pub got-none : (bs : Bids) → with-some bs free rest ≡ rest free → Got bs 0
+  got-none : (bs : Bids) → with-some bs free rest ≡ rest free → Got bs 0
   unfolding given within
   got-none bs e = (omega arith, refl, with-no-bid ∙ sym e)
 

@@ -67,8 +67,8 @@ place-kept bss more i j x free same there e =
     let Q : Bids → Type 0 = λ bs. Got free (best (without bss i)) bs (getD (choice more free) i 0) in
     let R : ℕ → Type 0 = λ c. Got free (best (without bss i)) (getD bss i []) c in
     only-raised (getD bss i []) j x (getD (choice more free) i 0) free (best (without bss i))
-    (subst R e (taken-got bss i free))
-    (subst Q there (subst P same (taken-got more i free)))
+    (subst R e (taken-got bss free i))
+    (subst Q there (subst P same (taken-got more free i)))
 
 raising-place : (bss : List Bids) (i j x : ℕ) (free : Some) → i < length bss → getD (choice bss free) i 0 ≡ suc j →
     getD (choice (set bss i (raised (getD bss i []) j x)) free) i 0 ≡ suc j
@@ -95,7 +95,7 @@ raising-pieces : (bss : List Bids) (i j x : ℕ) (free : Some) → i < length bs
 unfolding given
 raising-pieces bss i j x free l e =
     let bs : Bids = getD bss i [] in
-    let room : suc j ≤ length bs = subst (λ (c : ℕ). c ≤ length bs) e (taken-got bss i free .0) in
+    let room : suc j ≤ length bs = subst (λ (c : ℕ). c ≤ length bs) e (taken-got bss free i .0) in
     ap₂ (λ (ds : Bids) (c : ℕ). given ds c .on) (getD-set-same bss i (raised bs j x) [] l) (raising-place bss i j x free l e)
     ∙ ap (λ (b : Bid). b .on) (raised-there bs j x room)
     ∙ ap (λ (c : ℕ). given bs c .on) (sym e)

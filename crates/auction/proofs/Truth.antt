@@ -4,15 +4,16 @@
 use mathlib.Core.Path.{_≡_, refl, sym, _∙_, ap, subst}
 use mathlib.Core.Bool.{true}
 use mathlib.Core.List.{List, [], _∷_}
-use Prim.Native.Nat.{ℕ, zero, suc, _+_, _≤_}
+use Prim.Native.Nat.{ℕ, zero, suc, _+_, _≤_, _<_}
 use native.Mathlib.Omega.{arith}
-use lib.ListN.{getD, set}
+use lib.ListN.{length, getD, set}
 use Rattle.std.proofs.shelf.Lists.{getD-set-same}
 use Rattle.auction.specs.Bids.{Some, within, less, all, Bid, Bids, best, with-some, given, choice, without, taken, pays}
 use Rattle.auction.specs.Promise.{worth, Truth-is-best}
+use Rattle.auction.specs.Laws.{Best-way, got-by, clarke, No-tie-rule-rewards-lying}
 use Rattle.auction.proofs.Sets.{within-refl, within-trans, less-anti}
 use Rattle.auction.proofs.OneBidder.{with-bid, some-ge}
-use Rattle.auction.proofs.Best.{best-mono, best-apart, taken-fits, taken-comes, pays-is}
+use Rattle.auction.proofs.Best.{best-mono, best-apart, way-fits, way-comes, clarke-is, choice-best}
 use Rattle.auction.proofs.Payments.{worth-ge, worth-got, Says}
 
 -- what a bidder bids has no bearing on what the others bid
@@ -34,33 +35,50 @@ worth-below truth free s f up v = go (worth-got truth s)
         let more : f (less free s) ≤ f (less free (b .on)) = up (less free s) (less free (b .on)) (less-anti free (b .on) s w) in
         omega arith
 
--- the pieces that the truth takes are at least as good as any others, once the others' loss is counted
-truth-beats : (bss : List Bids) (i : ℕ) (free s : Some) → within s free ≡ true →
-    worth (getD bss i []) s + best (without bss i) (less free s) ≤ worth (getD bss i []) (taken bss free i .on) + best (without bss i) (less free (taken bss free i .on))
-truth-beats bss i free s w =
+-- the pieces that the truth gets are at least as good as any others, once the others' loss is counted
+truth-beats : (bss : List Bids) (i : ℕ) (free s : Some) (cs : List ℕ) → Best-way bss free cs → within s free ≡ true →
+    let t : Some = got-by bss cs i .on in
+    worth (getD bss i []) s + best (without bss i) (less free s) ≤ worth (getD bss i []) t + best (without bss i) (less free t)
+truth-beats bss i free s cs way w =
     let truth : Bids = getD bss i [] in
     omega (
       arith,
       worth-below truth free s (best (without bss i)) (best-mono (without bss i)) w,
       best-apart bss i free,
-      taken-comes bss free i,
-      worth-ge truth (getD (choice bss free) i 0) (taken bss free i .on) (within-refl (taken bss free i .on)),
+      way-comes bss free cs way i,
+      worth-ge truth (getD cs i 0) (got-by bss cs i .on) (within-refl (got-by bss cs i .on)),
     )
 
 -- two lists of bids that differ at most in one bidder's, of which the first are its true ones
-truth-for : (honest other : List Bids) (i : ℕ) (free : Some) (truth : Bids) → getD honest i [] ≡ truth → without other i ≡ without honest i →
-    worth truth (taken other free i .on) + pays honest free i ≤ worth truth (taken honest free i .on) + pays other free i
-truth-for honest other i free truth true-there same =
-    let s : Some = taken other free i .on in
-    let t : Some = taken honest free i .on in
+truth-for : (honest other : List Bids) (i : ℕ) (free : Some) (truth : Bids) (cs ds : List ℕ) → getD honest i [] ≡ truth → without other i ≡ without honest i →
+    Best-way honest free cs → Best-way other free ds →
+    worth truth (got-by other ds i .on) + clarke honest free cs i ≤ worth truth (got-by honest cs i .on) + clarke other free ds i
+truth-for honest other i free truth cs ds true-there same way way-other =
+    let s : Some = got-by other ds i .on in
+    let t : Some = got-by honest cs i .on in
     let others : Some → ℕ = best (without honest i) in
     let P : Bids → Type 0 = λ bs. worth bs s + others (less free s) ≤ worth bs t + others (less free t) in
-    let beats : P truth = subst P true-there (truth-beats honest i free s (taken-fits other free i)) in
+    let beats : P truth = subst P true-there (truth-beats honest i free s cs way (way-fits other free ds way-other i)) in
     let left : best (without other i) (less free s) ≡ others (less free s) = ap (λ (bss : List Bids). best bss (less free s)) same in
     let alone : best (without other i) free ≡ others free = ap (λ (bss : List Bids). best bss free) same in
-    omega (arith, pays-is honest free i, pays-is other free i)
+    omega (arith, clarke-is honest free cs way i, clarke-is other free ds way-other i)
 
+truth-whatever-ties : (bss : List Bids) (i : ℕ) (free : Some) (truth lie : Bids) (cs ds : List ℕ) → i < length bss →
+    let honest : List Bids = set bss i truth in
+    let other : List Bids = set bss i lie in
+    Best-way honest free cs → Best-way other free ds →
+    worth truth (got-by other ds i .on) + clarke honest free cs i ≤ worth truth (got-by honest cs i .on) + clarke other free ds i
+truth-whatever-ties bss i free truth lie cs ds l =
+    truth-for (set bss i truth) (set bss i lie) i free truth cs ds (getD-set-same bss i truth [] l) (without-set bss i lie ∙ sym (without-set bss i truth))
+
+pub no-tie-rule-rewards-lying : No-tie-rule-rewards-lying
+unfolding No-tie-rule-rewards-lying
+no-tie-rule-rewards-lying = truth-whatever-ties
+
+-- the house's own rule for ties is one of them
 pub truth-is-best : Truth-is-best
 unfolding Truth-is-best
 truth-is-best = λ bss i n truth lie l.
-    truth-for (set bss i truth) (set bss i lie) i (all n) truth (getD-set-same bss i truth [] l) (without-set bss i lie ∙ sym (without-set bss i truth))
+    let honest : List Bids = set bss i truth in
+    let other : List Bids = set bss i lie in
+    truth-whatever-ties bss i (all n) truth lie (choice honest (all n)) (choice other (all n)) l (choice-best honest (all n)) (choice-best other (all n))

@@ -3,17 +3,37 @@ use mathlib.Core.Path.{_≡_}
 use mathlib.Core.Logic.{_≢_}
 use mathlib.Core.Bool.{Bool, true, false, not, _&&_, _||_}
 use mathlib.Core.List.{List, [], _∷_, _++_}
-use Prim.Native.Nat.{ℕ, zero, suc, _+_, _≤_, _<_}
+use Prim.Native.Nat.{ℕ, zero, suc, _+_, _-_, _≤_, _<_}
 use lib.Dec.{eqb}
 use lib.ListN.{length, getD, set}
-use Rattle.auction.specs.Bids.{pick, Some, within, less, Bids, no-bid, with-some, best, choice, without, pays}
-use Rattle.auction.specs.Promise.{raised}
+use Rattle.auction.specs.Bids.{pick, Some, within, less, Bid, Bids, no-bid, with-some, best, given, choice, without, pays}
+use Rattle.auction.specs.Promise.{worth, fits-all, sum-of, raised}
 
 -- raising the price of a bid that was taken, not only the same pieces are got for the same payment: the same bid is taken, by its place
 unfoldable pub Raising-keeps-place : Type 0
 Raising-keeps-place =
     (bss : List Bids) (i j x : ℕ) (free : Some) → i < length bss → getD (choice bss free) i 0 ≡ suc j →
     getD (choice (set bss i (raised (getD bss i []) j x)) free) i 0 ≡ suc j
+
+-- a way to give the pieces away, by whatever rule for ties: it fits, and no way comes to more
+abbrev pub Best-way : List Bids → Some → List ℕ → Type 0
+Best-way bss free cs = (fits-all bss free cs ≡ true) × (sum-of bss cs ≡ best bss free)
+
+-- what a bidder gets by such a way, and its Clarke payment: what the others could have had without it, less what they have
+abbrev pub got-by : List Bids → List ℕ → ℕ → Bid
+got-by bss cs i = given (getD bss i []) (getD cs i 0)
+
+abbrev pub clarke : List Bids → Some → List ℕ → ℕ → ℕ
+clarke bss free cs i = best (without bss i) free - (best bss free - got-by bss cs i .price)
+
+-- no rule for ties makes lying pay, also one that asks when the bids were made: whichever of the best ways are taken, once with the true bids and once with others
+unfoldable pub No-tie-rule-rewards-lying : Type 0
+No-tie-rule-rewards-lying =
+    (bss : List Bids) (i : ℕ) (free : Some) (truth lie : Bids) (cs ds : List ℕ) → i < length bss →
+    let honest : List Bids = set bss i truth in
+    let other : List Bids = set bss i lie in
+    Best-way honest free cs → Best-way other free ds →
+    worth truth (got-by other ds i .on) + clarke honest free cs i ≤ worth truth (got-by honest cs i .on) + clarke other free ds i
 
 -- any one bidder may be asked first, and the others settled with what it leaves
 unfoldable pub Any-first : Type 0

@@ -1,12 +1,17 @@
 // What the auction promises: each function here carries one theorem on its contract, and computes nothing. docs/THEOREMS.md is their index.
 ghost use Rattle.auction.specs.Promise.{Truth-is-best, Sealed, Best-of-all, Not-more-than-bid, Never-loses, Raising-keeps};
 ghost use Rattle.auction.specs.Promise.{Closed-stays, Lots-apart, Last-counts, Turned-away};
-ghost use Rattle.auction.specs.Laws.{Raising-keeps-place, Any-first, Two-groups, Unwanted-pieces, Settled-apart, Many-groups};
+ghost use Rattle.auction.specs.Laws.{No-tie-rule-rewards-lying, Raising-keeps-place, Any-first, Two-groups, Unwanted-pieces, Settled-apart, Many-groups};
 ghost use Rattle.auction.specs.Worked.{All-come-out};
 
 // Whatever the others bid, no bids gain a bidder more than its true ones do.
 pub fn nobody_gains_by_lying()
     ensures { λ _. ⌜ Truth-is-best ⌝ }
+{}
+
+// Nor does any other rule for ties make lying pay, be it by the time of the bids.
+pub fn no_tie_rule_rewards_lying()
+    ensures { λ _. ⌜ No-tie-rule-rewards-lying ⌝ }
 {}
 
 // As long as a lot is open, what the others do there changes no answer but those to their own calls.
