@@ -66,7 +66,7 @@ worth-got (b ∷ bs) s = go (fits b s) refl (larger-is offer (worth bs s) .2) (w
     go false e (inl o) later = (0, (refl, sym (o ∙ ap (λ (t : Bool). pick t (b .price) 0) e)))
     go t e (inr o) (c, says) = says-later b bs s most c (says .0, says .1 ∙ sym o)
 
--- nor is it here
+-- `i < length bss` is not used here either
 pub never-loses : Never-loses
 unfolding Never-loses
 never-loses = λ bss i n _.

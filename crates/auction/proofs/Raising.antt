@@ -8,12 +8,13 @@ use Prim.Native.Nat.{ℕ, zero, suc, _+_, _≤_, _<_}
 use native.Mathlib.Nat.{add-zero}
 use native.Mathlib.Omega.{arith}
 use lib.ListN.{length, getD, set}
-use Rattle.std.proofs.shelf.Lists.{getD-set-same, getD-set-other, set-getD}
-use Rattle.std.proofs.shelf.Tests.{cases-eq}
+use Rattle.std.proofs.shelf.Lists.{getD-set-same, getD-set-other, getD-past, set-getD}
+use Rattle.std.proofs.shelf.Tests.{cases-eq, cases-lt}
 use Rattle.auction.specs.Bids.{Some, less, all, Bid, Bids, no-bid, best, with-some, given, choice, without, taken, pays}
 use Rattle.auction.specs.Promise.{raised, Raising-keeps}
 use Rattle.auction.specs.Laws.{Raising-keeps-place}
 use Rattle.auction.proofs.OneBidder.{fits, with-bid, some-ge, Got}
+use Rattle.auction.proofs.Choice.{choice-bound}
 use Rattle.auction.proofs.Best.{taken-got, pays-is}
 use Rattle.auction.proofs.Truth.{without-set}
 
@@ -70,12 +71,20 @@ place-kept bss more i j x free same there e =
     (subst R e (taken-got bss free i))
     (subst Q there (subst P same (taken-got more free i)))
 
-raising-place : (bss : List Bids) (i j x : ℕ) (free : Some) → i < length bss → getD (choice bss free) i 0 ≡ suc j →
+-- who is given a bid is one of the bidders
+bidder-there : (bss : List Bids) (i j : ℕ) (free : Some) → getD (choice bss free) i 0 ≡ suc j → i < length bss
+bidder-there bss i j free e = go (cases-lt i (length bss))
+  where
+    go : (i < length bss) ⊎ (length bss ≤ i) → i < length bss
+    go (inl l) = l
+    go (inr past) = absurd (omega (arith, choice-bound bss i free, ap (λ (bs : Bids). length bs) (getD-past bss i [] past)))
+
+raising-place : (bss : List Bids) (i j x : ℕ) (free : Some) → getD (choice bss free) i 0 ≡ suc j →
     getD (choice (set bss i (raised (getD bss i []) j x)) free) i 0 ≡ suc j
-raising-place bss i j zero free l e =
+raising-place bss i j zero free e =
     ap (λ (xs : List Bids). getD (choice xs free) i 0) (ap (set bss i) (raised-by-nothing (getD bss i []) j) ∙ set-getD bss i []) ∙ e
-raising-place bss i j (suc x) free l e =
-    place-kept bss (set bss i (raised (getD bss i []) j (suc x))) i j x free (without-set bss i _) (getD-set-same bss i _ [] l) e
+raising-place bss i j (suc x) free e =
+    place-kept bss (set bss i (raised (getD bss i []) j (suc x))) i j x free (without-set bss i _) (getD-set-same bss i _ [] (bidder-there bss i j free e)) e
 
 pub raising-keeps-place : Raising-keeps-place
 unfolding Raising-keeps-place
@@ -90,19 +99,19 @@ pays-by-pieces bss more i free same on =
     let alone : best (without more i) free ≡ best (without bss i) free = ap (λ (xs : List Bids). best xs free) same in
     omega (arith, pays-is bss free i, pays-is more free i)
 
-raising-pieces : (bss : List Bids) (i j x : ℕ) (free : Some) → i < length bss → getD (choice bss free) i 0 ≡ suc j →
+raising-pieces : (bss : List Bids) (i j x : ℕ) (free : Some) → getD (choice bss free) i 0 ≡ suc j →
     taken (set bss i (raised (getD bss i []) j x)) free i .on ≡ taken bss free i .on
 unfolding given
-raising-pieces bss i j x free l e =
+raising-pieces bss i j x free e =
     let bs : Bids = getD bss i [] in
     let room : suc j ≤ length bs = subst (λ (c : ℕ). c ≤ length bs) e (taken-got bss free i .0) in
-    ap₂ (λ (ds : Bids) (c : ℕ). given ds c .on) (getD-set-same bss i (raised bs j x) [] l) (raising-place bss i j x free l e)
+    ap₂ (λ (ds : Bids) (c : ℕ). given ds c .on) (getD-set-same bss i (raised bs j x) [] (bidder-there bss i j free e)) (raising-place bss i j x free e)
     ∙ ap (λ (b : Bid). b .on) (raised-there bs j x room)
     ∙ ap (λ (c : ℕ). given bs c .on) (sym e)
 
--- `prices-fine` is not used: a bid's place is kept whatever the prices are
+-- `i < length bss` and `prices-fine` are not used: who is given a bid is a bidder, and its place is kept whatever the prices are
 pub raising-keeps : Raising-keeps
 unfolding Raising-keeps
-raising-keeps = λ bss i j x n l _ e.
-    let on = raising-pieces bss i j x (all n) l e in
+raising-keeps = λ bss i j x n _ _ e.
+    let on = raising-pieces bss i j x (all n) e in
     (on, pays-by-pieces bss (set bss i (raised (getD bss i []) j x)) i (all n) (without-set bss i _) on)

@@ -12,7 +12,7 @@ use Rattle.auction.specs.Promise.{worth, fits-all, sum-of, raised}
 -- raising the price of a bid that was taken, not only the same pieces are got for the same payment: the same bid is taken, by its place
 unfoldable pub Raising-keeps-place : Type 0
 Raising-keeps-place =
-    (bss : List Bids) (i j x : ℕ) (free : Some) → i < length bss → getD (choice bss free) i 0 ≡ suc j →
+    (bss : List Bids) (i j x : ℕ) (free : Some) → getD (choice bss free) i 0 ≡ suc j →
     getD (choice (set bss i (raised (getD bss i []) j x)) free) i 0 ≡ suc j
 
 -- a way to give the pieces away, by whatever rule for ties: it fits, and no way comes to more
