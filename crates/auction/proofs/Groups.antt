@@ -9,11 +9,11 @@ use native.Mathlib.Nat.{add-comm}
 use native.Mathlib.Omega.{arith}
 use lib.ListN.{getD}
 use Rattle.std.proofs.shelf.Tests.{not-from-false, not-true, not-false}
-use Rattle.auction.specs.Bids.{pick, Some, less, Bids, no-bid, with-some, best, first-good, given, choice, without, taken, pays}
-use Rattle.auction.specs.Laws.{touches, pieces-of, only, outside, Apart, Same-for, Settled-apart}
-use Rattle.auction.proofs.Sets.{less-nothing, touches-comm, touches-nothing}
+use Rattle.auction.specs.Bids.{pick, Some, within, less, Bids, no-bid, with-some, best, first-good, given, choice, without, taken, pays}
+use Rattle.auction.specs.Laws.{touches, pieces-of, only, outside, Apart, Same-for, Settled-apart, shared, Settled-on-pieces}
+use Rattle.auction.proofs.Sets.{less-nothing, touches-comm, touches-nothing, touches-within, touches-less}
 use Rattle.auction.proofs.Best.{taken-comes}
-use Rattle.auction.proofs.Unwanted.{Alike, some-alike, good-alike, Unwanted, best-unwanted, choice-unwanted, Fewer, fewer-without}
+use Rattle.auction.proofs.Unwanted.{Alike, some-alike, good-alike, Unwanted, best-unwanted, choice-unwanted, pays-unwanted, Fewer, fewer-without}
 
 -- one bidder before others of whom some want none of its pieces: those count as if it had not been asked
 module _ (bs : Bids) (free : Some) (f inside others : Some → ℕ) (split : (x : Some) → f x ≡ inside x + others x)
@@ -194,7 +194,7 @@ module _ (bss : List Bids) (group : ℕ → Bool) (free : Some) (h : Apart group
   pays-settled : pays bss free i ≡ pays (only group bss) free i
   pays-settled = omega (arith, price-settled, others-settled, best-settled bss group free h, taken-comes (only group bss) free i)
 
-  pub same-settled : Same-for bss (only group bss) free i
+  pub same-settled : Same-for bss free (only group bss) free i
   unfolding Same-for
   same-settled = (choice-settled bss group free h i m, pays-settled)
 
@@ -205,3 +205,39 @@ settled-apart = λ group bss free h. (
   same-settled bss group free h,
   λ i n. same-settled bss (outside group) free (apart-outside group bss h) i (not-from-false (group i) n),
 )
+
+-- two lists of bids, the second of which does not want some pieces, which can be left out
+same-without : (bss css : List Bids) (free a : Some) (i : ℕ) → Unwanted a css → Same-for bss free css free i → Same-for bss free css (less free a) i
+unfolding Same-for
+same-without bss css free a i u (c, p) =
+    (c ∙ sym (ap (λ (ds : List ℕ). getD ds i 0) (choice-unwanted css free a u)), p ∙ sym (pays-unwanted css free a u i))
+
+-- the group is given by its pieces p
+module _ (group : ℕ → Bool) (bss : List Bids) (free p : Some) (mine : (i a : ℕ) → group i ≡ true → within (pieces-of bss i a) p ≡ true)
+    (theirs : (i a : ℕ) → group i ≡ false → touches (pieces-of bss i a) p ≡ false) where
+  apart-by-pieces : Apart group bss
+  unfolding Apart
+  apart-by-pieces = λ i j a c m n. touches-within (pieces-of bss i a) p (pieces-of bss j c) (mine i a m) (theirs j c n)
+
+  unwanted-rest : Unwanted (less free p) (only group bss)
+  unwanted-rest = unwanted-only group bss (less free p) (λ i c m. touches-less (pieces-of bss i c) free p (mine i c m))
+
+  unwanted-mine : Unwanted p (only (outside group) bss)
+  unwanted-mine = unwanted-only (outside group) bss p (λ i c m. theirs i c (not-true (group i) m))
+
+  best-on-pieces : best bss free ≡ best (only group bss) (shared free p) + best (only (outside group) bss) (less free p)
+  best-on-pieces =
+      best-settled bss group free apart-by-pieces
+      ∙ ap₂ (λ (m n : ℕ). m + n)
+      (sym (best-unwanted (only group bss) free (less free p) unwanted-rest))
+      (sym (best-unwanted (only (outside group) bss) free p unwanted-mine))
+
+pub settled-on-pieces : Settled-on-pieces
+unfolding Settled-on-pieces
+settled-on-pieces = λ group bss free p mine theirs.
+    let apart : Apart group bss = apart-by-pieces group bss free p mine theirs in (
+      best-on-pieces group bss free p mine theirs,
+      λ i m. same-without bss (only group bss) free (less free p) i (unwanted-rest group bss free p mine theirs) (same-settled bss group free apart i m),
+      λ i n. same-without bss (only (outside group) bss) free p i (unwanted-mine group bss free p mine theirs)
+          (same-settled bss (outside group) free (apart-outside group bss apart) i (not-from-false (group i) n)),
+    )

@@ -5,7 +5,7 @@ use mathlib.Core.Bool.{Bool, true, false, not, _&&_, _||_}
 use mathlib.Core.List.{[], _∷_}
 use Prim.Native.Nat.{ℕ, zero, suc}
 use lib.ListN.{length, getD}
-use Rattle.std.proofs.shelf.Tests.{false≢true, both-ways, and-parts, and-from, or-parts, not-true, not-from-false}
+use Rattle.std.proofs.shelf.Tests.{false≢true, both-ways, and-parts, and-from, or-parts, or-from, not-true, not-from-false}
 use Rattle.std.proofs.shelf.Lists.{ext-getD}
 use Rattle.auction.specs.Bids.{Some, within, less}
 use Rattle.auction.specs.Laws.{touches}
@@ -174,6 +174,22 @@ touches-has [] b t i h = absurd (false≢true h)
 touches-has (x ∷ a) [] t i h = refl
 touches-has (x ∷ a) (y ∷ b) t zero h = and-right-false x y h (or-parts (x && y) (touches a b) t .0)
 touches-has (x ∷ a) (y ∷ b) t (suc i) h = touches-has a b (or-parts (x && y) (touches a b) t .1) i h
+
+has-touches : (a b : Some) → ((i : ℕ) → has a i ≡ true → has b i ≡ false) → touches a b ≡ false
+unfolding touches
+has-touches [] b f = refl
+has-touches (x ∷ a) [] f = refl
+has-touches (true ∷ a) (y ∷ b) f = or-from y (touches a b) (f 0 refl) (has-touches a b (λ i. f (suc i)))
+has-touches (false ∷ a) (y ∷ b) f = has-touches a b (λ i. f (suc i))
+
+pub touches-within : (a p b : Some) → within a p ≡ true → touches b p ≡ false → touches a b ≡ false
+touches-within a p b w t =
+    has-touches a b λ i h. not-so (has b i) (λ k. both-ways (has p i) (touches-has b p t i k) (within-has a p w i h))
+
+-- a set does not touch what is outside it
+pub touches-less : (a s p : Some) → within a p ≡ true → touches a (less s p) ≡ false
+touches-less a s p w =
+    has-touches a (less s p) λ i h. not-so (has (less s p) i) (λ k. both-ways (has p i) (in-less s p i k .1) (within-has a p w i h))
 
 -- pieces that a set does not touch can be taken away from around it
 pub within-less : (a b s : Some) → touches a b ≡ false → within a (less s b) ≡ within a s

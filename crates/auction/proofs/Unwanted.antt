@@ -113,7 +113,7 @@ unwanted-fewer bss css a fewer u = λ j c. go j c (fewer j)
     go j c (inl e) = ap (λ (bs : Bids). touches (getD bs c no-bid .on) a) e ∙ u j c
     go j c (inr e) = ap (λ (bs : Bids). touches (getD bs c no-bid .on) a) e
 
-pays-unwanted : (bss : List Bids) (free a : Some) → Unwanted a bss → (i : ℕ) → pays bss (less free a) i ≡ pays bss free i
+pub pays-unwanted : (bss : List Bids) (free a : Some) → Unwanted a bss → (i : ℕ) → pays bss (less free a) i ≡ pays bss free i
 pays-unwanted bss free a u i = cc (best-unwanted bss free a u, choice-unwanted bss free a u, best-unwanted (without bss i) free a (unwanted-fewer bss (without bss i) a (fewer-without bss i) u))
 
 pub unwanted-pieces : Unwanted-pieces

@@ -77,17 +77,31 @@ outside group i = not (group i)
 unfoldable pub Apart : (ℕ → Bool) → List Bids → Type 0
 Apart group bss = (i j a c : ℕ) → group i ≡ true → group j ≡ false → touches (pieces-of bss i a) (pieces-of bss j c) ≡ false
 
--- of one bidder, that two lists of bids give it the same bid, ties included, for the same payment
-unfoldable pub Same-for : List Bids → List Bids → Some → ℕ → Type 0
-Same-for bss css free i = (getD (choice bss free) i 0 ≡ getD (choice css free) i 0) × (pays bss free i ≡ pays css free i)
+-- of one bidder, that by two lists of bids, each on its own free pieces, it gets the same bid, ties included, for the same payment
+unfoldable pub Same-for : List Bids → Some → List Bids → Some → ℕ → Type 0
+Same-for bss s css t i = (getD (choice bss s) i 0 ≡ getD (choice css t) i 0) × (pays bss s i ≡ pays css t i)
 
 -- bidders whose pieces nobody else wants are settled by themselves, and so are the others, wherever they stand in the list
 unfoldable pub Settled-apart : Type 0
 Settled-apart =
     (group : ℕ → Bool) (bss : List Bids) (free : Some) → Apart group bss →
     (best bss free ≡ best (only group bss) free + best (only (outside group) bss) free)
-    × ((i : ℕ) → group i ≡ true → Same-for bss (only group bss) free i)
-    × ((i : ℕ) → group i ≡ false → Same-for bss (only (outside group) bss) free i)
+    × ((i : ℕ) → group i ≡ true → Same-for bss free (only group bss) free i)
+    × ((i : ℕ) → group i ≡ false → Same-for bss free (only (outside group) bss) free i)
+
+-- the pieces of one set that are in the other too
+abbrev pub shared : Some → Some → Some
+shared s t = less s (less s t)
+
+-- the group given by its pieces: its bids lie within them, and no bid from outside touches them. It is settled on them, and the others on the rest
+unfoldable pub Settled-on-pieces : Type 0
+Settled-on-pieces =
+    (group : ℕ → Bool) (bss : List Bids) (free pieces : Some) →
+    ((i a : ℕ) → group i ≡ true → within (pieces-of bss i a) pieces ≡ true) →
+    ((i a : ℕ) → group i ≡ false → touches (pieces-of bss i a) pieces ≡ false) →
+    (best bss free ≡ best (only group bss) (shared free pieces) + best (only (outside group) bss) (less free pieces))
+    × ((i : ℕ) → group i ≡ true → Same-for bss free (only group bss) (shared free pieces) i)
+    × ((i : ℕ) → group i ≡ false → Same-for bss free (only (outside group) bss) (less free pieces) i)
 
 -- the same of many groups: each bidder is in the group with its number, and bids of two groups share no piece
 unfoldable pub summed : ℕ → (ℕ → ℕ) → ℕ
@@ -102,4 +116,4 @@ Many-groups =
     (group-of : ℕ → ℕ) (groups : ℕ) (bss : List Bids) (free : Some) → ((i : ℕ) → i < length bss → group-of i < groups) →
     ((i j a c : ℕ) → group-of i ≢ group-of j → touches (pieces-of bss i a) (pieces-of bss j c) ≡ false) →
     (best bss free ≡ summed groups (λ g. best (only (numbered group-of g) bss) free))
-    × ((i : ℕ) → Same-for bss (only (numbered group-of (group-of i)) bss) free i)
+    × ((i : ℕ) → Same-for bss free (only (numbered group-of (group-of i)) bss) free i)

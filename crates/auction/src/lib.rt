@@ -1,7 +1,7 @@
 // What the auction promises: each function here carries one theorem on its contract, and computes nothing. docs/THEOREMS.md is their index.
 ghost use Rattle.auction.specs.Promise.{Truth-is-best, Sealed, Best-of-all, Not-more-than-bid, Never-loses, Raising-keeps};
 ghost use Rattle.auction.specs.Promise.{Closed-stays, Lots-apart, Last-counts, Turned-away};
-ghost use Rattle.auction.specs.Laws.{No-tie-rule-rewards-lying, Raising-keeps-place, Any-first, Two-groups, Unwanted-pieces, Settled-apart, Many-groups};
+ghost use Rattle.auction.specs.Laws.{No-tie-rule-rewards-lying, Raising-keeps-place, Any-first, Two-groups, Unwanted-pieces, Settled-apart, Settled-on-pieces, Many-groups};
 ghost use Rattle.auction.specs.Worked.{All-come-out};
 
 // Whatever the others bid, no bids gain a bidder more than its true ones do.
@@ -82,6 +82,11 @@ pub fn pieces_nobody_wants_do_not_matter()
 // A group of bidders whose pieces nobody else wants is settled by itself: welfare adds up, and each gets and pays the same, ties included.
 pub fn groups_apart_are_settled_apart()
     ensures { λ _. ⌜ Settled-apart ⌝ }
+{}
+
+// The same with the group given by a set of pieces: it is settled on those, and the others on the rest.
+pub fn a_group_is_settled_on_its_pieces()
+    ensures { λ _. ⌜ Settled-on-pieces ⌝ }
 {}
 
 // The same of any number of groups, given by a number for each bidder.
