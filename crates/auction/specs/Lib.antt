@@ -1,3 +1,5 @@
 pub mod Bids
 pub mod House
 pub mod Promise
+pub mod Laws
+pub mod Worked

@@ -1,0 +1,14 @@
+pub mod Sets
+pub mod OneBidder
+pub mod Best
+pub mod Choice
+pub mod Payments
+pub mod Truth
+pub mod Raising
+pub mod HouseLaws
+pub mod Sealed
+pub mod Parting
+pub mod Unwanted
+pub mod Groups
+pub mod ManyGroups
+pub mod Worked
