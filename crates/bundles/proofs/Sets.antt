@@ -13,7 +13,8 @@ use Rattle.std.proofs.shelf.Bits.{shr-shr}
 use Rattle.std.proofs.shelf.Ways.{tells}
 use Rattle.auction.specs.Bids.{Some, pick, within, less, all}
 use Rattle.auction.specs.House.{any}
-use Rattle.bundles.specs.Masks.{bits, mask-of, union, meet}
+use Rattle.auction.specs.Laws.{touches}
+use Rattle.bundles.specs.Masks.{bits, mask-of, union}
 
 -- the upper bits of a number below a power of two are below half of it
 half-below : (k m : ℕ) → m < 2 ^ suc k → m / 2 < 2 ^ k
@@ -97,15 +98,15 @@ or-bits (suc n) a b =
     let half : bitOr a b / 2 ≡ bitOr (a / 2) (b / 2) = omega (arith, or-step a b) in
     ap₂ (λ x xs. x ∷ xs) (rw or-step (or-head a b _)) (rw half (or-bits n (a / 2) (b / 2)))
 
-meet-step : (s m a : ℕ) (t : Bool) → not (eqb a 0) ≡ t → not (eqb (a * 2 + min (s % 2) (m % 2)) 0) ≡ ((eqb (s % 2) 1 && eqb (m % 2) 1) || t)
-meet-step s m a t e = grind (arith, tells)
+touch-step : (s m a : ℕ) (t : Bool) → not (eqb a 0) ≡ t → not (eqb (a * 2 + min (s % 2) (m % 2)) 0) ≡ ((eqb (s % 2) 1 && eqb (m % 2) 1) || t)
+touch-step s m a t e = grind (arith, tells)
 
-pub meet-bits : (k n s m : ℕ) → s < 2 ^ k → m < 2 ^ n → not (eqb (bitAnd s m) 0) ≡ meet (bits k s) (bits n m)
-unfolding meet bits
-meet-bits zero n s m hs hm = let none : s ≡ 0 = omega arith in rw none
-meet-bits (suc k) zero s m hs hm = let none : m ≡ 0 = omega arith in rw (none, and-zero-r)
-meet-bits (suc k) (suc n) s m hs hm =
-    rw and-step (meet-step s m _ _ (meet-bits k n (s / 2) (m / 2) (half-below k s hs) (half-below n m hm)))
+pub touch-bits : (k n s m : ℕ) → s < 2 ^ k → m < 2 ^ n → not (eqb (bitAnd s m) 0) ≡ touches (bits k s) (bits n m)
+unfolding touches bits
+touch-bits zero n s m hs hm = let none : s ≡ 0 = omega arith in rw none
+touch-bits (suc k) zero s m hs hm = let none : m ≡ 0 = omega arith in rw (none, and-zero-r)
+touch-bits (suc k) (suc n) s m hs hm =
+    rw and-step (touch-step s m _ _ (touch-bits k n (s / 2) (m / 2) (half-below k s hs) (half-below n m hm)))
 
 mask-step : (m h : ℕ) → h ≡ m / 2 → pick (eqb (m % 2) 1) 1 0 + 2 * h ≡ m
 mask-step m h e = grind (arith, tells)

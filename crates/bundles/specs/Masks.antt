@@ -1,5 +1,5 @@
 -- Sets of pieces as the bits of numbers, piece 0 the lowest: the bridge from masks to the sets of the meaning. Assumes nothing: these are definitions.
-use mathlib.Core.Bool.{Bool, true, false, _&&_, _||_}
+use mathlib.Core.Bool.{_||_}
 use mathlib.Core.List.{[], _∷_}
 use Prim.Native.Nat.{ℕ, zero, suc, _+_, _*_, _/_, _%_}
 use lib.Dec.{eqb}
@@ -15,13 +15,8 @@ unfoldable pub mask-of : Some → ℕ
 mask-of [] = 0
 mask-of (x ∷ xs) = pick x 1 0 + 2 * mask-of xs
 
--- the pieces of either set; whether some piece is in both
+-- the pieces of either set
 unfoldable pub union : Some → Some → Some
 union [] ys = ys
 union (x ∷ xs) [] = x ∷ xs
 union (x ∷ xs) (y ∷ ys) = (x || y) ∷ union xs ys
-
-unfoldable pub meet : Some → Some → Bool
-meet [] ys = false
-meet (x ∷ xs) [] = false
-meet (x ∷ xs) (y ∷ ys) = (x && y) || meet xs ys

@@ -5,7 +5,8 @@ ghost use mathlib.Core.Path.{_≡_};
 ghost use Rattle.std.specs.Orderings.{Decides};
 ghost use Rattle.auction.specs.Bids.{within, less, all};
 ghost use Rattle.auction.specs.House.{any};
-ghost use Rattle.bundles.specs.Masks.{bits, union, meet};
+ghost use Rattle.auction.specs.Laws.{touches};
+ghost use Rattle.bundles.specs.Masks.{bits, union};
 pub use row::Row;
 
 mod row;
@@ -57,7 +58,7 @@ impl Bundle {
 
     // Is some piece in both?
     pub fn shares(self, other: Bundle) -> bool
-        ensures { λ r. ⌜ ((k n : ℕ) → self .mask < 2 ^ k → other .mask < 2 ^ n → r ≡ meet (bits k (self .mask)) (bits n (other .mask))) ⌝ }
+        ensures { λ r. ⌜ ((k n : ℕ) → self .mask < 2 ^ k → other .mask < 2 ^ n → r ≡ touches (bits k (self .mask)) (bits n (other .mask))) ⌝ }
     {
         self.mask & other.mask != 0
     }
