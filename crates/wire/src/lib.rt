@@ -3,6 +3,7 @@ pub use answer::Answer;
 pub use answer::Refusal;
 pub use bids::Bids;
 pub use call::Call;
+pub use puts::put_bid;
 pub use replies::read_answer;
 pub use replies::write_answer;
 pub use requests::read_call;

@@ -28,7 +28,8 @@ pub fn put_u64(out: &mut [u8], at: usize, n: u64)
     out[at..at + 8].copy_from_slice(&n.to_le_bytes());
 }
 
-fn put_bid(out: &mut [u8], at: usize, bid: Bid)
+// Six bytes: the set in two, and the price in four.
+pub fn put_bid(out: &mut [u8], at: usize, bid: Bid)
     requires { ⌜ at + 6 ≤ length (now out) ⌝ }
     ensures { λ _. ⌜ now (out .exit) ≡ put (now (out .entry)) at (bids-bytes (meant bid ∷ [])) ⌝ }
 {
