@@ -8,7 +8,7 @@ use native.Mathlib.Numerals.{one-add}
 use native.Mathlib.Omega.{arith}
 use lib.Bits.{bitAnd, bitOr, and-step, or-step, and-zero-l, and-zero-r}
 use lib.Dec.{eqb, leb}
-use lib.ListN.{length}
+use lib.ListN.{length, getD}
 use Rattle.std.proofs.shelf.Bits.{shr-shr}
 use Rattle.std.proofs.shelf.Ways.{tells}
 use Rattle.auction.specs.Bids.{Some, pick, within, less, all}
@@ -47,6 +47,17 @@ within-bits (suc k) zero s m hs hm =
 within-bits (suc k) (suc n) s m hs hm =
     rw and-step (within-step s m _ _ (within-bits k n (s / 2) (m / 2) (half-below k s hs) (half-below n m hm)))
 
+-- a shift by one more goes on from the upper bits
+shift-one : (s n : ℕ) → s / 2 ^ suc n ≡ s / 2 / 2 ^ n
+shift-one s n = sym (shr-shr s 1 n ∙ ap (λ j. s / 2 ^ j) (one-add n))
+
+-- a piece is in the set just if its bit is set
+pub has-bit : (n p m : ℕ) → m < 2 ^ n → eqb (m / 2 ^ p % 2) 1 ≡ getD (bits n m) p false
+unfolding bits
+has-bit zero p m h = let none : m ≡ 0 = omega arith in rw (none, zero-div)
+has-bit (suc n) zero m h = rw div-one
+has-bit (suc n) (suc p) m h = rw shift-one (has-bit n p (m / 2) (half-below n m h))
+
 -- a lot has all pieces of a set just if the mask has no bit beyond them
 all-step : (s q : ℕ) (t : Bool) → eqb q 0 ≡ t → eqb q 0 ≡ ((not (eqb (s % 2) 1) || true) && t)
 all-step s q t e = grind (arith, tells)
@@ -56,8 +67,7 @@ unfolding within bits all
 within-all zero n s h = let none : s ≡ 0 = omega arith in rw (none, zero-div)
 within-all (suc k) zero s h = rw div-one (none-step s _ (rw div-one at (within-all k zero (s / 2) (half-below k s h))))
 within-all (suc k) (suc n) s h =
-    let shift : s / 2 ^ suc n ≡ s / 2 / 2 ^ n = sym (shr-shr s 1 n ∙ ap (λ j. s / 2 ^ j) (one-add n)) in
-    rw shift (all-step s _ _ (within-all k n (s / 2) (half-below k s h)))
+    rw shift-one (all-step s _ _ (within-all k n (s / 2) (half-below k s h)))
 
 -- a set fits any lot whose pieces are beyond its highest bit
 pub within-more : (k n s : ℕ) → s < 2 ^ k → s < 2 ^ n → true ≡ within (bits k s) (all n)

@@ -1,6 +1,7 @@
 // Sets of pieces as the bits of a number, piece 0 the lowest, and bids on them, by value.
 ghost use Prim.Native.Nat.{ℕ, _^_, _<_};
-ghost use mathlib.Core.Bool.{not};
+ghost use lib.ListN.{getD};
+ghost use mathlib.Core.Bool.{false, not};
 ghost use mathlib.Core.Path.{_≡_};
 ghost use Rattle.std.specs.Orderings.{Decides};
 ghost use Rattle.auction.specs.Bids.{within, less, all};
@@ -29,6 +30,13 @@ impl Bundle {
         ensures { λ r. ⌜ ((n : ℕ) → self .mask < 2 ^ n → r ≡ not (any (bits n (self .mask)))) ⌝ }
     {
         self.mask == 0
+    }
+
+    // Is this piece in the set?
+    pub fn has(self, piece: u32) -> bool
+        ensures { λ r. ⌜ ((n : ℕ) → self .mask < 2 ^ n → r ≡ getD (bits n (self .mask)) piece false) ⌝ }
+    {
+        piece < 16 && (self.mask >> piece) % 2 == 1
     }
 
     // Is every piece of this set in the other?
