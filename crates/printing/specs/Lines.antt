@@ -20,14 +20,13 @@ set-text i (x ∷ xs) = pick x (digit i ∷ []) [] ++ set-text (suc i) xs
 abbrev pub bid-text : Bid → List ℕ
 bid-text b = set-text 0 (b .on) ++ (32 ∷ decimal (b .price))
 
--- each bid behind a blank, and a comma between two
-unfoldable pub more-text : Bids → List ℕ
-more-text [] = []
-more-text (b ∷ bs) = (44 ∷ 32 ∷ bid-text b) ++ more-text bs
+-- each bid behind a blank, and a comma between two: what stands before the first is given
+unfoldable pub bids-after : List ℕ → Bids → List ℕ
+bids-after sep [] = []
+bids-after sep (b ∷ bs) = (sep ++ (32 ∷ bid-text b)) ++ bids-after (44 ∷ []) bs
 
 abbrev pub bids-text : Bids → List ℕ
-bids-text [] = []
-bids-text (b ∷ bs) = (32 ∷ bid-text b) ++ more-text bs
+bids-text bs = bids-after [] bs
 
 abbrev pub pair-text : ℕ → ℕ → List ℕ
 pair-text a b = decimal a ++ (32 ∷ decimal b)

@@ -13,9 +13,9 @@ returns-then-piece-lt16 c = λ n h. has-bit n (c .args .piece) (c .args .self .m
 pub returns-else-piece-lt16 : need.returns-else-piece-lt16
 returns-else-piece-lt16 c =
     λ n h.
-        let piece = c .args .piece in
-        let mask = c .args .self .mask in
-        let past : 16 ≤ piece = omega arith in
-        let below : mask < 2 ^ piece = omega (arith, pow-mono past) in
-        let none : mask / 2 ^ piece ≡ 0 = div-eq-of-lt below in
-        le-ltb piece 16 past ∙ (rw none at (has-bit n piece mask h))
+    let piece = c .args .piece in
+    let mask = c .args .self .mask in
+    let past : 16 ≤ piece = omega arith in
+    let below : mask < 2 ^ piece = omega (arith, pow-mono past) in
+    let none : mask / 2 ^ piece ≡ 0 = div-eq-of-lt below in
+    le-ltb piece 16 past ∙ (rw none at (has-bit n piece mask h))
