@@ -23,8 +23,18 @@ fn main(rt: LibcRuntime) -> Result<(), AnyError> {
             rt.print(HELP)?;
             Ok(())
         }
-        Ok(Wish::Serve { limits: _, file: None }) => told(&rt, "standard input", serve(&rt, rt.stdin())),
-        Ok(Wish::Serve { limits: _, file: Some(at) }) => serve_file(&rt, word(words.as_slice(), at)),
+        Ok(
+            Wish::Serve {
+                limits: _,
+                file: None,
+            },
+        ) => told(&rt, "standard input", serve(&rt, rt.stdin())),
+        Ok(
+            Wish::Serve {
+                limits: _,
+                file: Some(at),
+            },
+        ) => serve_file(&rt, word(words.as_slice(), at)),
         Err(fault) => {
             complain(&rt, words.as_slice(), fault)?;
             Err("bad options".into())
@@ -71,7 +81,10 @@ fn complain(rt: &LibcRuntime, words: &[String], fault: Fault) -> io::Result<()> 
         Fault::NotInRange { at, least, most } => {
             let text = word(words, at);
             let given = word(words, at.saturating_add(1));
-            eprintln!(rt, "house: {text} takes a whole number from {least} to {most}, not {given}")
+            eprintln!(
+                rt,
+                "house: {text} takes a whole number from {least} to {most}, not {given}"
+            )
         }
         Fault::SecondFile(at) => {
             let text = word(words, at);

@@ -24,7 +24,13 @@ pub fn answer(asked: Result<Call<'_>, usize>) -> Answer
     ensures { λ r. ⌜ said r ≡ turned-away (read-as (asked .entry)) ⌝ }
 {
     match asked {
-        Ok(_) => Answer::Refused { refusal: Refusal::OutOfRange, place: 0 },
-        Err(place) => Answer::Refused { refusal: Refusal::Unreadable, place: place as u64 },
+        Ok(_) => Answer::Refused {
+            refusal: Refusal::OutOfRange,
+            place: 0,
+        },
+        Err(place) => Answer::Refused {
+            refusal: Refusal::Unreadable,
+            place: place as u64,
+        },
     }
 }

@@ -1,0 +1,7 @@
+// Examples of every layer, as tests; in a crate of their own because a crate with tests is proved twice.
+#[cfg(test)]
+mod answers;
+#[cfg(test)]
+mod calls;
+#[cfg(test)]
+mod sets;
