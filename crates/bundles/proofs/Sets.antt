@@ -9,6 +9,7 @@ use native.Mathlib.Omega.{arith}
 use lib.Bits.{bitAnd, bitOr, and-step, or-step, and-zero-l, and-zero-r}
 use lib.Dec.{eqb, leb}
 use lib.ListN.{length, getD}
+use lib.Pow.{pow-mono}
 use Rattle.std.proofs.shelf.Bits.{shr-shr}
 use Rattle.std.proofs.shelf.Ways.{tells}
 use Rattle.auction.specs.Bids.{Some, pick, within, less, all}
@@ -57,6 +58,13 @@ unfolding bits
 has-bit zero p m h = let none : m ≡ 0 = omega arith in rw (none, zero-div)
 has-bit (suc n) zero m h = rw div-one
 has-bit (suc n) (suc p) m h = rw shift-one (has-bit n p (m / 2) (half-below n m h))
+
+-- a number of sixteen bits has none beyond
+pub below-past : (m p : ℕ) → m < 65536 → 16 ≤ p → m < 2 ^ p
+below-past m p h far = omega (arith, pow-mono far)
+
+pub has-none : (n p m : ℕ) → m < 65536 → 16 ≤ p → m < 2 ^ n → false ≡ getD (bits n m) p false
+has-none n p m h far small = rw (div-eq-of-lt (below-past m p h far)) at (has-bit n p m small)
 
 -- a lot has all pieces of a set just if the mask has no bit beyond them
 all-step : (s q : ℕ) (t : Bool) → eqb q 0 ≡ t → eqb q 0 ≡ ((not (eqb (s % 2) 1) || true) && t)

@@ -8,8 +8,17 @@ ghost use Rattle.auction.specs.Bids.{within, less, all};
 ghost use Rattle.auction.specs.House.{any};
 ghost use Rattle.auction.specs.Laws.{touches};
 ghost use Rattle.bundles.specs.Masks.{bits, union};
+use bridge::a_bit_is_a_piece;
+use bridge::cleared_bits_are_taken_away;
+use bridge::common_bits_are_all;
+use bridge::common_bits_are_shared;
+use bridge::joined_bits_are_the_union;
+use bridge::no_bit_beyond_is_within;
+use bridge::no_bit_is_no_piece;
+use bridge::same_bits_are_the_same_set;
 pub use row::Row;
 
+mod bridge;
 mod row;
 
 // A set of pieces. Its contracts hold for any number of pieces that are looked at, as long as the masks have no others.
@@ -29,6 +38,7 @@ impl Bundle {
     pub fn is_empty(self) -> bool
         ensures { λ r. ⌜ ((n : ℕ) → self .mask < 2 ^ n → r ≡ not (any (bits n (self .mask)))) ⌝ }
     {
+        no_bit_is_no_piece(self.mask);
         self.mask == 0
     }
 
@@ -36,6 +46,7 @@ impl Bundle {
     pub fn has(self, piece: u32) -> bool
         ensures { λ r. ⌜ ((n : ℕ) → self .mask < 2 ^ n → r ≡ getD (bits n (self .mask)) piece false) ⌝ }
     {
+        a_bit_is_a_piece(self.mask, piece);
         piece < 16 && (self.mask >> piece) % 2 == 1
     }
 
@@ -43,6 +54,7 @@ impl Bundle {
     pub fn is_within(self, other: Bundle) -> bool
         ensures { λ r. ⌜ ((k n : ℕ) → self .mask < 2 ^ k → other .mask < 2 ^ n → r ≡ within (bits k (self .mask)) (bits n (other .mask))) ⌝ }
     {
+        common_bits_are_all(self.mask, other.mask);
         self.mask & other.mask == self.mask
     }
 
@@ -50,6 +62,7 @@ impl Bundle {
     pub fn without(self, other: Bundle) -> Bundle
         ensures { λ r. ⌜ ((k n : ℕ) → other .mask < 2 ^ k → bits n (r .mask) ≡ less (bits n (self .mask)) (bits k (other .mask))) ⌝ }
     {
+        cleared_bits_are_taken_away(self.mask, other.mask);
         Bundle {
             mask: self.mask & !other.mask,
         }
@@ -59,6 +72,7 @@ impl Bundle {
     pub fn joined(self, other: Bundle) -> Bundle
         ensures { λ r. ⌜ ((n : ℕ) → bits n (r .mask) ≡ union (bits n (self .mask)) (bits n (other .mask))) ⌝ }
     {
+        joined_bits_are_the_union(self.mask, other.mask);
         Bundle {
             mask: self.mask | other.mask,
         }
@@ -68,6 +82,7 @@ impl Bundle {
     pub fn shares(self, other: Bundle) -> bool
         ensures { λ r. ⌜ ((k n : ℕ) → self .mask < 2 ^ k → other .mask < 2 ^ n → r ≡ touches (bits k (self .mask)) (bits n (other .mask))) ⌝ }
     {
+        common_bits_are_shared(self.mask, other.mask);
         self.mask & other.mask != 0
     }
 
@@ -75,6 +90,7 @@ impl Bundle {
     pub fn is_same(self, other: Bundle) -> bool
         ensures { λ r. ⌜ ((n : ℕ) → self .mask < 2 ^ n → other .mask < 2 ^ n → Decides r (bits n (self .mask) ≡ bits n (other .mask))) ⌝ }
     {
+        same_bits_are_the_same_set(self.mask, other.mask);
         self.mask == other.mask
     }
 
@@ -82,6 +98,7 @@ impl Bundle {
     pub fn fits(self, pieces: u32) -> bool
         ensures { λ r. ⌜ ((k : ℕ) → self .mask < 2 ^ k → r ≡ within (bits k (self .mask)) (all pieces)) ⌝ }
     {
+        no_bit_beyond_is_within(self.mask, pieces);
         pieces >= 16 || self.mask >> pieces == 0
     }
 }

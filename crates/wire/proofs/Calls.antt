@@ -12,7 +12,7 @@ use Rattle.auction.specs.House.{bids}
 use Rattle.wire.specs.Bytes.{AllBytes, Written, put, spelled, number-in, bids-in, bids-bytes}
 use Rattle.wire.specs.Calls.{call-bytes, call-of, call-size}
 use Rattle.wire.proofs.Spelling.{length-spelled}
-use Rattle.wire.proofs.Sixes.{bids-back, length-bids-in}
+use Rattle.wire.proofs.SixBytes.{bids-back, length-bids-in}
 use Rattle.wire.proofs.Writing.{length-put, pair-written, put-behind, put-part, put-put}
 
 -- as many bids follow as the count says

@@ -1,6 +1,5 @@
 pub mod Spelling
 pub mod Calls
-pub mod Sixes
+pub mod SixBytes
 pub mod Writing
 pub mod Heard
-pub mod RoundTrips

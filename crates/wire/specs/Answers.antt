@@ -9,7 +9,7 @@ use Rattle.auction.specs.Bids.{pick}
 use Rattle.auction.specs.House.{Answer, refused, number, two, list}
 use Rattle.wire.specs.Bytes.{spelled, number-in, bids-bytes, bids-in}
 
-unfoldable pub answer-bytes : Answer → List ℕ
+abbrev pub answer-bytes : Answer → List ℕ
 answer-bytes (refused n p) = 0 ∷ (spelled 8 n ++ spelled 8 p)
 answer-bytes (number n) = 1 ∷ spelled 8 n
 answer-bytes (two a b) = 2 ∷ (spelled 8 a ++ spelled 8 b)

@@ -1,7 +1,6 @@
 pub mod Answers
 pub mod Bytes
 pub mod Calls
-pub mod Laws
 pub mod Meaning
 pub mod Offers
 pub mod Refusals

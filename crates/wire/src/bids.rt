@@ -8,6 +8,8 @@ ghost use Rattle.bundles.specs.Offers.{meant};
 ghost use Rattle.wire.specs.Bytes.{bids-in};
 ghost use Rattle.wire.specs.Offers.{offers};
 use crate::bytes::bid_at;
+use crate::sixes::so_many_are_read;
+use crate::sixes::the_rest_is_not_read;
 use bundles::Bid;
 
 #[derive(Clone, Copy)]
@@ -21,6 +23,7 @@ impl<'a> Bids<'a> {
         ensures bound { λ r. ⌜ r ≤ 255 ⌝ }
         ensures within { λ r. ⌜ 6 * r ≤ length (now (self .entry .bytes)) ⌝ }
     {
+        so_many_are_read(self.bytes);
         (self.bytes.len() / 6).min(255)
     }
 
@@ -30,6 +33,8 @@ impl<'a> Bids<'a> {
         ensures whole { λ r. ⌜ length (now r) % 6 ≡ 0 ⌝ }
         ensures bound { λ r. ⌜ length (now r) ≤ 1530 ⌝ }
     {
+        so_many_are_read(self.bytes);
+        the_rest_is_not_read(self.bytes);
         &self.bytes[0..6 * self.len()]
     }
 
@@ -37,6 +42,7 @@ impl<'a> Bids<'a> {
     pub fn get(self, i: usize) -> Option<Bid>
         ensures { λ r. ⌜ Cases r (length (offers (self .entry)) ≤ i) (λ b. (i < length (offers (self .entry))) × (meant b ≡ getD (offers (self .entry)) i no-bid)) ⌝ }
     {
+        so_many_are_read(self.bytes);
         if i >= self.len() {
             return None;
         }

@@ -1,9 +1,10 @@
 // Numbers and bids in a row of bytes, low byte first.
-ghost use Prim.Native.Nat.{_+_, _≤_};
+ghost use Prim.Native.Nat.{ℕ, _+_, _*_, _<_, _≤_};
+ghost use Rattle.auction.specs.Bids.{no-bid};
 ghost use mathlib.Core.Path.{_≡_};
 ghost use lib.ListN.{drop, getD, length};
 ghost use Rattle.bundles.specs.Offers.{meant};
-ghost use Rattle.wire.specs.Bytes.{bid-in, number-in};
+ghost use Rattle.wire.specs.Bytes.{bid-in, bids-in, number-in};
 use bundles::Bid;
 use bundles::Bundle;
 
@@ -39,7 +40,8 @@ pub fn u64_at(bytes: &[u8], at: usize) -> u64
 
 pub fn bid_at(bytes: &[u8], at: usize) -> Bid
     requires { ⌜ at + 6 ≤ length (now bytes) ⌝ }
-    ensures { λ r. ⌜ meant r ≡ bid-in (drop at (now (bytes .entry))) ⌝ }
+    ensures here { λ r. ⌜ meant r ≡ bid-in (drop at (now (bytes .entry))) ⌝ }
+    ensures place { λ r. ⌜ ((n i : ℕ) → at ≡ 6 * i → i < n → meant r ≡ getD (bids-in n (now (bytes .entry))) i no-bid) ⌝ }
 {
     Bid {
         on: Bundle {

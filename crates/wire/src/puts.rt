@@ -5,6 +5,7 @@ ghost use mathlib.Core.Path.{_≡_};
 ghost use lib.ListN.{length};
 ghost use Rattle.bundles.specs.Offers.{all-meant, meant};
 ghost use Rattle.wire.specs.Bytes.{bids-bytes, put, spelled};
+use crate::sixes::a_set_and_a_price_are_a_bid;
 use bundles::Bid;
 
 pub fn put_u16(out: &mut [u8], at: usize, n: u16)
@@ -33,6 +34,7 @@ pub fn put_bid(out: &mut [u8], at: usize, bid: Bid)
     requires { ⌜ at + 6 ≤ length (now out) ⌝ }
     ensures { λ _. ⌜ now (out .exit) ≡ put (now (out .entry)) at (bids-bytes (meant bid ∷ [])) ⌝ }
 {
+    a_set_and_a_price_are_a_bid(out, at, bid);
     put_u16(out, at, bid.on.mask);
     put_u32(out, at + 2, bid.price);
 }

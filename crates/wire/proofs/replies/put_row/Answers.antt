@@ -6,13 +6,11 @@ use lib.ListN.{length, set, length-set}
 use Rattle.std.proofs.shelf.Lists.{length-map}
 use Rattle.bundles.specs.Offers.{meant, all-meant}
 use Rattle.bundles.specs.Rows.{held}
-use Rattle.wire.specs.Answers.{answer-bytes}
 use Rattle.wire.specs.Bytes.{bids-bytes}
 use Rattle.wire.proofs.Writing.{put-behind, length-bids-bytes}
 use Rattle.wire.proofs.replies.put_row.Needs as need
 
 pub returns : need.returns
-unfolding answer-bytes
 returns c =
     let out = c .args .out .now in
     let row = held (c .args .row) in

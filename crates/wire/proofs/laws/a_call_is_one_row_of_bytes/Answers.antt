@@ -1,5 +1,0 @@
-use Rattle.wire.proofs.RoundTrips.{one-row-a-call}
-use Rattle.wire.proofs.laws.a_call_is_one_row_of_bytes.Needs as need
-
-pub returns : need.returns
-returns c = one-row-a-call

@@ -1,5 +1,0 @@
-use Rattle.wire.proofs.RoundTrips.{place-is-longest}
-use Rattle.wire.proofs.laws.the_place_is_the_longest_beginning.Needs as need
-
-pub returns : need.returns
-returns c = place-is-longest

@@ -1,5 +1,0 @@
-use Rattle.wire.proofs.RoundTrips.{read-is-readable}
-use Rattle.wire.proofs.laws.what_is_read_is_readable.Needs as need
-
-pub returns : need.returns
-returns c = read-is-readable
