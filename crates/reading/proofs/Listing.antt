@@ -1,0 +1,114 @@
+-- Bids read one after the other, and written into bytes as they come. Assumes nothing.
+use mathlib.Core.Path.{_≡_, refl, sym, ap, ap₂, subst, _∙_}
+use mathlib.Core.Bool.{Bool, true, false, not, _&&_}
+use mathlib.Core.List.{List, [], _∷_, _++_}
+use Prim.Native.Nat.{ℕ, zero, suc, _+_, _-_, _*_, _/_, _<_, _≤_, min}
+use borrow.Rule.Slice.PartMut.{midOf}
+use native.Mathlib.Omega.{arith}
+use lib.Dec.{eqb}
+use lib.ListN.{drop, length, take}
+use Rattle.std.proofs.shelf.Lists.{append-assoc, append-nil, drop-at, length-take-le, take-at}
+use Rattle.std.specs.Options.{isSome}
+use Rattle.std.specs.declared.option.Option.{Option}
+use Rattle.std.proofs.shelf.Tests.{and-from, and-left, and-right, eq-eqb, lt-ltb, ne-eqb, not-from-false, not-from-true, true≢false}
+use Rattle.auction.specs.Bids.{Bid, Bids, pick}
+use Rattle.auction.specs.Promise.{fields-of}
+use Rattle.bundles.specs.Masks.{bits}
+use Rattle.bundles.specs.Offers.{meant}
+use Rattle.bundles.specs.declared.Bid.{Bid as Value}
+use Rattle.bundles.proofs.Picks.{pick-yes, pick-no}
+use Rattle.wire.specs.Bytes.{bid-in, bids-bytes, bids-in, put}
+use Rattle.wire.proofs.Sixes.{bids-forth, bids-in-more, bids-part}
+use Rattle.wire.proofs.Writing.{length-bids-bytes, length-put}
+use Rattle.reading.proofs.Steps.{begun}
+use Rattle.reading.specs.Lines.{bid, comma, given, list, next, several, skip}
+use Rattle.reading.specs.Reads.{Read, got, stuck, then}
+
+-- what was read behind these bids, with them in front
+abbrev pub onto : Bids → Read Bids → Read Bids
+onto done (got more left) = got (done ++ more) left
+onto done (stuck left) = stuck left
+
+pub onto-none : (r : Read Bids) → onto [] r ≡ r
+onto-none (got more left) = refl
+onto-none (stuck left) = refl
+
+onto-onto : (done : Bids) (b : Bid) (r : Read Bids) → onto (done ++ (b ∷ [])) r ≡ onto done (then r (λ more left. got (b ∷ more) left))
+onto-onto done b (got more left) = ap (λ l. got l left) (append-assoc done (b ∷ []) more)
+onto-onto done b (stuck left) = refl
+
+-- a bid of the code has a price of four bytes and sixteen bits
+fields-fit : (b : Value) → b .price < 4294967296 → fields-of (meant b ∷ []) ≡ true
+unfolding fields-of bits
+fields-fit b h = and-from _ _ (and-from _ _ (lt-ltb (b .price) 4294967296 h) refl) refl
+
+-- one bid more in the bytes, those in front of it as they were
+pub written-more : (n : ℕ) (out after : List ℕ) (b : Value) → 6 * n + 6 ≤ length out → b .price < 4294967296 → after ≡ put out (6 * n) (bids-bytes (meant b ∷ [])) → bids-in (n + 1) after ≡ bids-in n out ++ (meant b ∷ [])
+unfolding put bids-in
+written-more n out after b room h is =
+    let six : length (take (6 * n) out) ≡ 6 * n = length-take-le (6 * n) out (omega arith) in
+    let behind : List ℕ = bids-bytes (meant b ∷ []) ++ drop (6 * n + length (bids-bytes (meant b ∷ []))) out in
+    let front : take (6 * n) after ≡ take (6 * n) out = ap (take (6 * n)) is ∙ take-at (take (6 * n) out) behind (6 * n) six in
+    let last : drop (6 * n) after ≡ behind = ap (drop (6 * n)) is ∙ drop-at (take (6 * n) out) behind (6 * n) six in
+    let same : bids-in n after ≡ bids-in n out =
+    sym (bids-part n (6 * n) after refl (omega (arith, ap length is ∙ length-put out (6 * n) (bids-bytes (meant b ∷ [])) (omega (arith, length-bids-bytes (meant b ∷ [])))))) ∙ ap (λ l. bids-in (length l / 6) l) front ∙ bids-part n (6 * n) out refl (omega arith) in
+    let new : bids-in 1 behind ≡ meant b ∷ [] = bids-forth (meant b ∷ []) _ (fields-fit b h) in
+    bids-in-more n after ∙ ap₂ (λ l k. l ++ k) same (ap (λ l. bid-in l ∷ []) last ∙ new)
+
+abbrev list-at : List ℕ → Read Bids
+list-at from = given (next from) (got [] from) (λ _. several 255 from)
+
+-- whether there are any bids
+module _ (bs from : List ℕ) (p : Option ℕ) (skipped : from ≡ skip bs) (is : p ≡ next from) where
+  pub list-none : isSome p ≡ false → got [] from ≡ list bs
+  list-none none = ends from p is none ∙ ap list-at skipped
+    where
+      ends : (l : List ℕ) (p : Option ℕ) → p ≡ next l → isSome p ≡ false → got [] l ≡ list-at l
+      ends [] p e f = refl
+      ends (b ∷ l) p e f = absurd (true≢false (sym (ap isSome e) ∙ f))
+
+  pub list-some : isSome p ≡ true → several 255 from ≡ list bs
+  list-some some = begun (next from) p (got [] from) (several 255 from) is some ∙ ap list-at skipped
+
+-- a turn of the loop, which begins behind n bids at bs; the bid that is read there ends where left begins
+module _ (n : ℕ) (out bs left : List ℕ) (whole : Read Bids) (few : n < 255) (room : length out ≡ 1530) (was : onto (bids-in n out) (several (255 - n) bs) ≡ whole) where
+  abbrev more : ℕ → Bid → List ℕ → Read Bids
+  more m b behind = pick (comma (skip behind) && not (eqb m 0)) (then (several m (skip (drop 1 (skip behind)))) (λ all end. got (b ∷ all) end)) (got (b ∷ []) (skip behind))
+
+  unrolled : (r : Read Bid) → r ≡ bid bs → onto (bids-in n out) (then r (more (254 - n))) ≡ whole
+  unfolding several
+  unrolled r e =
+      let next : 255 - n ≡ suc (254 - n) = omega arith in
+      ap (λ r. onto (bids-in n out) (then r (more (254 - n)))) e ∙ ap (λ k. onto (bids-in n out) (several k bs)) (sym next) ∙ was
+
+  pub list-stuck : stuck left ≡ bid bs → stuck left ≡ whole
+  list-stuck e = unrolled (stuck left) e
+
+  module _ (b : Value) (after from : List ℕ) (price : b .price < 4294967296) (read : got (meant b) left ≡ bid bs) (written : after ≡ put out (6 * n) (bids-bytes (meant b ∷ []))) (skipped : from ≡ skip left) where
+    now-in : bids-in (n + 1) after ≡ bids-in n out ++ (meant b ∷ [])
+    now-in = written-more n out after b (omega arith) price written
+
+    last : (comma (skip left) && not (eqb (254 - n) 0)) ≡ false → got (bids-in (n + 1) after) from ≡ whole
+    last e = ap₂ (λ l k. got l k) now-in skipped ∙ ap (onto (bids-in n out)) (sym (pick-no _ _ e)) ∙ unrolled (got (meant b) left) read
+
+    pub list-full : n + 1 ≡ 255 → got (bids-in (n + 1) after) from ≡ whole
+    list-full e = last (and-right _ _ (not-from-true _ (eq-eqb (254 - n) 0 (omega arith))))
+
+    pub list-over : false ≡ comma from → got (bids-in (n + 1) after) from ≡ whole
+    list-over e = last (and-left _ _ (ap comma (sym skipped) ∙ sym e))
+
+    pub list-more : (behind next : List ℕ) → (n + 1 ≡ 255 → ⊥) → true ≡ comma from → behind ≡ drop 1 from → next ≡ skip behind → onto (bids-in (n + 1) after) (several (255 - (n + 1)) next) ≡ whole
+    list-more behind next less e step skips =
+        let one : 255 - (n + 1) ≡ 254 - n = omega arith in
+        let on : next ≡ skip (drop 1 (skip left)) = skips ∙ ap skip (step ∙ ap (drop 1) skipped) in
+        let goes : (comma (skip left) && not (eqb (254 - n) 0)) ≡ true = and-from _ _ (ap comma (sym skipped) ∙ sym e) (not-from-false _ (ne-eqb (254 - n) 0 (λ z. less (omega arith)))) in
+        ap₂ (λ k l. onto (bids-in (n + 1) after) (several k l)) one on ∙ ap (λ l. onto l (several (254 - n) (skip (drop 1 (skip left))))) now-in ∙ onto-onto (bids-in n out) (meant b) _
+        ∙ ap (onto (bids-in n out)) (sym (pick-yes _ _ goes)) ∙ unrolled (got (meant b) left) read
+
+-- the part of the bytes that was written has just these bids
+pub part-offers : (n : ℕ) (out : List ℕ) → n ≤ 255 → 1530 ≤ length out → bids-in (min (length (midOf 0 (6 * n - 0) out) / 6) 255) (midOf 0 (6 * n - 0) out) ≡ bids-in n out
+part-offers n out few room =
+    let cut : 6 * n - 0 ≡ 6 * n = omega arith in
+    let long : length (take (6 * n - 0) out) ≡ 6 * n = length-take-le (6 * n - 0) out (omega arith) ∙ cut in
+    let count : min (length (take (6 * n - 0) out) / 6) 255 ≡ length (take (6 * n - 0) out) / 6 = omega arith in
+    ap (λ k. bids-in k (take (6 * n - 0) out)) count ∙ bids-part n (6 * n - 0) out cut (omega arith)
