@@ -21,7 +21,7 @@ use Rattle.wire.specs.Bytes.{bid-in, bids-bytes, bids-in, put}
 use Rattle.wire.proofs.Sixes.{bids-forth, bids-in-more, bids-part}
 use Rattle.wire.proofs.Writing.{length-bids-bytes, length-put}
 use Rattle.reading.proofs.Steps.{begun}
-use Rattle.reading.specs.Lines.{bid, comma, given, list, next, several, skip}
+use Rattle.reading.specs.Lines.{bid, bid-list, comma, given, next, several, skip}
 use Rattle.reading.specs.Reads.{Read, got, stuck, then}
 
 -- what was read behind these bids, with them in front
@@ -60,14 +60,14 @@ list-at from = given (next from) (got [] from) (λ _. several 255 from)
 
 -- whether there are any bids
 module _ (bs from : List ℕ) (p : Option ℕ) (skipped : from ≡ skip bs) (is : p ≡ next from) where
-  pub list-none : isSome p ≡ false → got [] from ≡ list bs
+  pub list-none : isSome p ≡ false → got [] from ≡ bid-list bs
   list-none none = ends from p is none ∙ ap list-at skipped
     where
       ends : (l : List ℕ) (p : Option ℕ) → p ≡ next l → isSome p ≡ false → got [] l ≡ list-at l
       ends [] p e f = refl
       ends (b ∷ l) p e f = absurd (true≢false (sym (ap isSome e) ∙ f))
 
-  pub list-some : isSome p ≡ true → several 255 from ≡ list bs
+  pub list-some : isSome p ≡ true → several 255 from ≡ bid-list bs
   list-some some = begun (next from) p (got [] from) (several 255 from) is some ∙ ap list-at skipped
 
 -- a turn of the loop, which begins behind n bids at bs; the bid that is read there ends where left begins

@@ -13,7 +13,7 @@ use Rattle.std.specs.declared.option.Option.the-variants.{Some, None}
 use Rattle.auction.specs.Bids.{pick}
 use Rattle.auction.specs.House.{Call}
 use Rattle.reading.specs.Calls.{at, behind, bid-or-brings, call, kind, my-bids-words}
-use Rattle.reading.specs.Lines.{bid, blank, comma, digit, digit-at, digits, ended, field, gap, given, list, next, number, piece, piece-at, pieces, set-of, several, skip, spelt, starts}
+use Rattle.reading.specs.Lines.{bid, bid-list, blank, byte, comma, digit, digit-at, digits, end, field, gap, given, next, number, piece, piece-at, pieces, set-of, several, skip, spelt, starts}
 use Rattle.reading.specs.Reads.{Read, got, stuck, then}
 use Rattle.reading.specs.declared.calls.Kind.{Kind}
 use Rattle.reading.specs.declared.calls.Kind.the-variants.{Open, Bid, Ticks, MyBids, Result, Brings, Lot}
@@ -48,11 +48,13 @@ skip-shorter n (b ∷ bs) h = pick-shorter n (blank b) (skip bs) (b ∷ bs) (ski
 gap-within : (n : ℕ) (bs : List ℕ) → length bs ≤ n → Within n (gap bs)
 gap-within n bs h = pick-within n (starts blank bs) _ _ (skip-shorter n bs h) h
 
+byte-within : (n w : ℕ) (bs : List ℕ) → length bs ≤ n → Within n (byte w bs)
+byte-within n w bs h = pick-within n (starts (λ b. eqb b w) bs) _ _ (omega (arith, length-drop 1 bs)) h
+
 spelt-within : {X : Type 0} (n : ℕ) (ws : List ℕ) (x : X) (bs : List ℕ) → length bs ≤ n → Within n (spelt ws x bs)
 unfolding spelt
 spelt-within n [] x bs h = h
-spelt-within n (w ∷ ws) x [] h = h
-spelt-within n (w ∷ ws) x (b ∷ bs) h = pick-within n (eqb b w) _ _ (spelt-within n ws x bs (omega arith)) h
+spelt-within n (w ∷ ws) x bs h = then-within n (byte w bs) _ (byte-within n w bs h) (λ _ left k. spelt-within n ws x left k)
 
 digits-within : (n m : ℕ) (bs : List ℕ) → length bs ≤ n → Within n (digits m bs)
 unfolding digits
@@ -79,12 +81,12 @@ several-within n zero bs h = h
 several-within n (suc m) bs h =
     then-within n (bid bs) _ (bid-within n bs h)
     (λ b left k.
-        let from = skip-shorter n left k in
-        let next = skip-shorter n (drop 1 (skip left)) (omega (arith, length-drop 1 (skip left))) in
-        pick-within n (comma (skip left) && not (eqb m 0)) _ _ (then-within n (several m (skip (drop 1 (skip left)))) _ (several-within n m (skip (drop 1 (skip left))) next) (λ all end l. l)) from)
+    let from = skip-shorter n left k in
+    let next = skip-shorter n (drop 1 (skip left)) (omega (arith, length-drop 1 (skip left))) in
+    pick-within n (comma (skip left) && not (eqb m 0)) _ _ (then-within n (several m (skip (drop 1 (skip left)))) _ (several-within n m (skip (drop 1 (skip left))) next) (λ all end l. l)) from)
 
-list-within : (n : ℕ) (bs : List ℕ) → length bs ≤ n → Within n (list bs)
-list-within n bs h = given-within n (next (skip bs)) _ _ (skip-shorter n bs h) (λ _. several-within n 255 (skip bs) (skip-shorter n bs h))
+bid-list-within : (n : ℕ) (bs : List ℕ) → length bs ≤ n → Within n (bid-list bs)
+bid-list-within n bs h = given-within n (next (skip bs)) _ _ (skip-shorter n bs h) (λ _. several-within n 255 (skip bs) (skip-shorter n bs h))
 
 kind-within : (n : ℕ) (bs : List ℕ) → length bs ≤ n → Within n (kind bs)
 kind-within n bs h =
@@ -92,7 +94,7 @@ kind-within n bs h =
     (pick-within n (at 98 bs) _ _ (pick-within n (at 114 (drop 1 bs)) _ _ (spelt-within n (codes "brings") Brings bs h) (spelt-within n (codes "bid") Bid bs h))
     (pick-within n (at 116 bs) _ _ (spelt-within n (codes "ticks") Ticks bs h)
     (pick-within n (at 109 bs) _ _ (then-within n (spelt (codes "my") MyBids bs) _ (spelt-within n (codes "my") MyBids bs h)
-        (λ _ left k. then-within n (gap left) _ (gap-within n left k) (λ _ more l. spelt-within n (codes "bids") MyBids more l)))
+    (λ _ left k. then-within n (gap left) _ (gap-within n left k) (λ _ more l. spelt-within n (codes "bids") MyBids more l)))
     (pick-within n (at 114 bs) _ _ (spelt-within n (codes "result") Result bs h)
     (pick-within n (at 108 bs) _ _ (spelt-within n (codes "lot") Lot bs h) h)))))
 
@@ -100,8 +102,8 @@ behind-within : (n : ℕ) (k : Kind) (m : ℕ) (bs : List ℕ) → length bs ≤
 behind-within n Open m bs h = then-within n (field bs) _ (field-within n bs h) (λ t left l. l)
 behind-within n Bid m bs h =
     then-within n (field bs) _ (field-within n bs h) (λ b left k.
-        then-within n (spelt (codes ":") Bid (skip left)) _ (spelt-within n (codes ":") Bid (skip left) (skip-shorter n left k))
-        (λ _ more l. then-within n (list more) _ (list-within n more l) (λ all end e. e)))
+    then-within n (byte 58 (skip left)) _ (byte-within n 58 (skip left) (skip-shorter n left k))
+    (λ _ more l. then-within n (bid-list more) _ (bid-list-within n more l) (λ all end e. e)))
 behind-within n Ticks m bs h = h
 behind-within n MyBids m bs h = then-within n (field bs) _ (field-within n bs h) (λ t left l. l)
 behind-within n Result m bs h = then-within n (field bs) _ (field-within n bs h) (λ t left l. l)
@@ -111,8 +113,9 @@ behind-within n Lot m bs h = h
 call-within : (n : ℕ) (bs : List ℕ) → length bs ≤ n → Within n (call bs)
 call-within n bs h =
     then-within n (kind (skip bs)) _ (kind-within n (skip bs) (skip-shorter n bs h)) (λ k left l.
-        then-within n (field left) _ (field-within n left l) (λ m more e.
-            then-within n (behind k m more) _ (behind-within n k m more e) (λ c rest f. given-within n (next (skip rest)) _ _ (skip-shorter n rest f) (λ _. skip-shorter n rest f))))
+    then-within n (field left) _ (field-within n left l) (λ m more e.
+    then-within n (behind k m more) _ (behind-within n k m more e) (λ c rest f.
+    then-within n (end rest) _ (given-within n (next (skip rest)) _ _ (skip-shorter n rest f) (λ _. skip-shorter n rest f)) (λ _ none g. g))))
 
 pub stuck-within : (bs left : List ℕ) → stuck left ≡ call bs → length left ≤ length bs
 stuck-within bs left e = subst (Within (length bs)) (sym e) (call-within (length bs) bs (omega arith))

@@ -14,8 +14,8 @@ use Rattle.std.proofs.shelf.Tests.{eq-eqb, false≢true, ne-eqb, lt-ltb, le-ltb
 use Rattle.std.specs.Options.{isSome}
 use Rattle.auction.specs.Bids.{pick}
 use Rattle.bundles.proofs.Picks.{pick-yes, pick-no}
-use Rattle.reading.specs.Lines.{blank, digit-at, digits, given, next, piece-at, pieces, skip, spelt, starts}
-use Rattle.reading.specs.Reads.{Read, got, stuck}
+use Rattle.reading.specs.Lines.{blank, byte, digit-at, digits, given, next, piece-at, pieces, skip, spelt, starts}
+use Rattle.reading.specs.Reads.{Read, got, stuck, then}
 
 pub skip-more : (bs : List ℕ) → true ≡ starts blank bs → skip (drop 1 bs) ≡ skip bs
 unfolding skip
@@ -27,21 +27,15 @@ unfolding skip
 skip-none [] e = refl
 skip-none (b ∷ bs) e = sym (pick-no _ _ (sym e))
 
--- a word, from its byte at place i on
-module _ {X : Type 0} (ws : List ℕ) (i : ℕ) (x : X) where
-  pub spelt-more : (bs : List ℕ) → i < length ws → true ≡ starts (λ b. eqb b (getD ws i 0)) bs → spelt (drop (i + 1) ws) x (drop 1 bs) ≡ spelt (drop i ws) x bs
+-- a word, from its byte at place i on; what was read there is r
+module _ {X : Type 0} (ws : List ℕ) (i : ℕ) (x : X) (bs : List ℕ) where
+  pub spelt-more : (r : Read (Unit {0})) → i < length ws → r ≡ byte (getD ws i 0) bs → then r (λ _ left. spelt (drop (i + 1) ws) x left) ≡ spelt (drop i ws) x bs
   unfolding spelt
-  spelt-more [] h e = absurd (false≢true (sym e))
-  spelt-more (b ∷ bs) h e = sym (at-drop-more (λ w. spelt w x (b ∷ bs)) ws i 0 h ∙ pick-yes _ _ (sym e))
+  spelt-more r h e = ap (λ r. then r (λ _ left. spelt (drop (i + 1) ws) x left)) e ∙ sym (at-drop-more (λ w. spelt w x bs) ws i 0 h)
 
-  pub spelt-stuck : (bs : List ℕ) → i < length ws → false ≡ starts (λ b. eqb b (getD ws i 0)) bs → stuck bs ≡ spelt (drop i ws) x bs
+  pub spelt-done : length ws ≤ i → got x bs ≡ spelt (drop i ws) x bs
   unfolding spelt
-  spelt-stuck [] h e = sym (at-drop-more (λ w. spelt w x []) ws i 0 h)
-  spelt-stuck (b ∷ bs) h e = sym (at-drop-more (λ w. spelt w x (b ∷ bs)) ws i 0 h ∙ pick-no _ _ (sym e))
-
-  pub spelt-done : (bs : List ℕ) → length ws ≤ i → got x bs ≡ spelt (drop i ws) x bs
-  unfolding spelt
-  spelt-done bs h = sym (at-drop-all (λ w. spelt w x bs) ws i h)
+  spelt-done h = sym (at-drop-all (λ w. spelt w x bs) ws i h)
 
 -- something is there, so that its kind of thing begins
 pub begun : {A X : Type 0} (o p : Option A) (x y : X) → p ≡ o → isSome p ≡ true → y ≡ given o x (λ _. y)

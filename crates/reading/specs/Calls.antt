@@ -7,7 +7,7 @@ use lib.Dec.{eqb}
 use lib.ListN.{drop, length}
 use Rattle.auction.specs.Bids.{pick}
 use Rattle.auction.specs.House.{Call, opens, bids, ticks, my-bids, result, brings, lot-is, garbled}
-use Rattle.reading.specs.Lines.{ended, field, gap, list, skip, spelt, starts}
+use Rattle.reading.specs.Lines.{bid-list, byte, end, field, gap, skip, spelt, starts}
 use Rattle.reading.specs.Reads.{Read, got, stuck, then}
 use Rattle.reading.specs.declared.calls.Kind.{Kind}
 use Rattle.reading.specs.declared.calls.Kind.the-variants.{Open, Bid, Ticks, MyBids, Result, Brings, Lot}
@@ -35,7 +35,7 @@ kind bs =
 -- what follows the first field
 abbrev pub behind : Kind → ℕ → List ℕ → Read Call
 behind Open n bs = then (field bs) (λ t left. got (opens n t) left)
-behind Bid k bs = then (field bs) (λ b left. then (spelt (codes ":") Bid (skip left)) (λ _ more. then (list more) (λ all end. got (bids k b all) end)))
+behind Bid k bs = then (field bs) (λ b left. then (byte 58 (skip left)) (λ _ more. then (bid-list more) (λ all rest. got (bids k b all) rest)))
 behind Ticks n bs = got (ticks n) bs
 behind MyBids k bs = then (field bs) (λ b left. got (my-bids k b) left)
 behind Result k bs = then (field bs) (λ b left. got (result k b) left)
@@ -43,7 +43,7 @@ behind Brings k bs = got (brings k) bs
 behind Lot k bs = got (lot-is k) bs
 
 abbrev pub call : List ℕ → Read Call
-call bs = then (kind (skip bs)) (λ k left. then (field left) (λ n more. then (behind k n more) (λ c rest. ended c rest)))
+call bs = then (kind (skip bs)) (λ k left. then (field left) (λ n more. then (behind k n more) (λ c rest. then (end rest) (λ _ none. got c none))))
 
 -- the call, or how much of the line fits
 abbrev pub placed : List ℕ → Read Call → Call

@@ -37,15 +37,18 @@ skip (b ∷ bs) = pick (blank b) (skip bs) (b ∷ bs)
 abbrev pub gap : List ℕ → Read (Unit {0})
 gap bs = pick (starts blank bs) (got tt (skip bs)) (stuck bs)
 
+-- just this byte
+abbrev pub byte : ℕ → List ℕ → Read (Unit {0})
+byte w bs = pick (starts (λ b. eqb b w) bs) (got tt (drop 1 bs)) (stuck bs)
+
 -- just these bytes, which stand for x
 unfoldable pub spelt : {X : Type 0} → List ℕ → X → List ℕ → Read X
 spelt [] x bs = got x bs
-spelt (w ∷ ws) x [] = stuck []
-spelt (w ∷ ws) x (b ∷ bs) = pick (eqb b w) (spelt ws x bs) (stuck (b ∷ bs))
+spelt (w ∷ ws) x bs = then (byte w bs) (λ _ left. spelt ws x left)
 
--- nothing but blanks: the line ends, and is x
-abbrev pub ended : {X : Type 0} → X → List ℕ → Read X
-ended x bs = given (next (skip bs)) (got x (skip bs)) (λ _. stuck (skip bs))
+-- nothing but blanks
+abbrev pub end : List ℕ → Read (Unit {0})
+end bs = given (next (skip bs)) (got tt (skip bs)) (λ _. stuck (skip bs))
 
 -- the digit that a byte is
 abbrev pub digit : ℕ → Option ℕ
@@ -96,8 +99,8 @@ several (suc n) bs =
     then (bid bs) (λ b left. pick (comma (skip left) && not (eqb n 0)) (then (several n (skip (drop 1 (skip left)))) (λ more behind. got (b ∷ more) behind)) (got (b ∷ []) (skip left)))
 
 -- all the bids of a call: none where the line ends, and 255 at most
-abbrev pub list : List ℕ → Read Bids
-list bs = given (next (skip bs)) (got [] (skip bs)) (λ _. several 255 (skip bs))
+abbrev pub bid-list : List ℕ → Read Bids
+bid-list bs = given (next (skip bs)) (got [] (skip bs)) (λ _. several 255 (skip bs))
 
 -- no call, and no answer: nothing but blanks, or a remark behind them
 abbrev pub silent : List ℕ → Bool

@@ -28,11 +28,8 @@ impl<'a> Reader<'a> {
         let kind = self.kind()?;
         let first = self.field()?;
         let call = self.behind(kind, first, bids)?;
-        self.blanks();
-        match self.peek() {
-            None => Ok(call),
-            Some(_) => Err(Unreadable),
-        }
+        self.end()?;
+        Ok(call)
     }
 
     // The first bytes tell which words they can be.
@@ -50,7 +47,12 @@ impl<'a> Reader<'a> {
         }
     }
 
-    fn behind<'b>(&mut self, kind: Kind, first: u32, bids: &'b mut [u8; 1530]) -> Result<Call<'b>, Unreadable>
+    fn behind<'b>(
+        &mut self,
+        kind: Kind,
+        first: u32,
+        bids: &'b mut [u8; 1530],
+    ) -> Result<Call<'b>, Unreadable>
         ensures { λ r. ⌜ seen-as asked r (now (self .exit)) ≡ behind kind first (ahead (now (self .entry))) ⌝ }
     {
         match kind {
@@ -78,8 +80,8 @@ impl<'a> Reader<'a> {
     {
         let bidder = self.field()?;
         self.blanks();
-        self.word(b":", Kind::Bid)?;
-        let count = self.list(bids)?;
+        self.byte(b':')?;
+        let count = self.bid_list(bids)?;
         Ok(Call::Bid {
             lot,
             bidder,

@@ -3,7 +3,7 @@ ghost use Prim.Native.Nat.{_^_, _<_, _≤_};
 ghost use mathlib.Core.Path.{_≡_};
 ghost use Rattle.std.specs.Vec.{made};
 ghost use Rattle.bundles.specs.Offers.{meant};
-ghost use Rattle.reading.specs.Lines.{bid, digit-at, field, list, number, piece-at, set-of};
+ghost use Rattle.reading.specs.Lines.{bid, bid-list, digit-at, field, number, piece-at, set-of};
 ghost use Rattle.reading.specs.Readers.{ahead, listed, seen, seen-as};
 use crate::reader::Reader;
 use crate::reader::Unreadable;
@@ -11,10 +11,13 @@ use bundles::Bid;
 use bundles::Bundle;
 use wire::put_bid;
 
+// As many bids as a call carries.
+const MOST_BIDS: usize = 255;
+
 impl<'a> Reader<'a> {
     // The bids of a call, written to the front of the lent bytes, and how many they are.
-    pub fn list(&mut self, bids: &mut [u8; 1530]) -> Result<usize, Unreadable>
-        ensures bids { λ r. ⌜ listed r (now (bids .exit)) (now (self .exit)) ≡ list (ahead (now (self .entry))) ⌝ }
+    pub fn bid_list(&mut self, bids: &mut [u8; 1530]) -> Result<usize, Unreadable>
+        ensures bids { λ r. ⌜ listed r (now (bids .exit)) (now (self .exit)) ≡ bid-list (ahead (now (self .entry))) ⌝ }
         ensures bound { λ r. ⌜ made r (λ n. n ≤ 255) ⌝ }
     {
         self.blanks();
@@ -27,7 +30,7 @@ impl<'a> Reader<'a> {
             put_bid(bids, 6 * count, bid);
             count += 1;
             self.blanks();
-            if count == 255 || !self.at(b',') {
+            if count == MOST_BIDS || !self.at(b',') {
                 return Ok(count);
             }
             self.step();

@@ -3,7 +3,7 @@ ghost use Prim.Native.Nat.{_<_};
 ghost use mathlib.Core.Path.{_≡_};
 ghost use lib.Dec.{eqb};
 ghost use lib.ListN.{drop, length};
-ghost use Rattle.reading.specs.Lines.{blank, gap, next, skip, spelt, starts};
+ghost use Rattle.reading.specs.Lines.{blank, byte as byte-in, end, gap, next, skip, spelt, starts};
 ghost use Rattle.reading.specs.Readers.{ahead, seen};
 use crate::calls::Kind;
 
@@ -70,16 +70,35 @@ impl<'a> Reader<'a> {
         Ok(())
     }
 
+    // Just this byte.
+    pub fn byte(&mut self, byte: u8) -> Result<(), Unreadable>
+        ensures { λ r. ⌜ seen r (now (self .exit)) ≡ byte-in byte (ahead (now (self .entry))) ⌝ }
+    {
+        if !self.at(byte) {
+            return Err(Unreadable);
+        }
+        self.step();
+        Ok(())
+    }
+
     // Just this word, which stands for that kind of call.
     pub fn word(&mut self, text: &[u8], kind: Kind) -> Result<Kind, Unreadable>
         ensures { λ r. ⌜ seen r (now (self .exit)) ≡ spelt (now (text .entry)) kind (ahead (now (self .entry))) ⌝ }
     {
         for byte in text {
-            if !self.at(*byte) {
-                return Err(Unreadable);
-            }
-            self.step();
+            self.byte(*byte)?;
         }
         Ok(kind)
+    }
+
+    // Nothing but blanks, to the line's end.
+    pub fn end(&mut self) -> Result<(), Unreadable>
+        ensures { λ r. ⌜ seen r (now (self .exit)) ≡ end (ahead (now (self .entry))) ⌝ }
+    {
+        self.blanks();
+        if self.peek().is_some() {
+            return Err(Unreadable);
+        }
+        Ok(())
     }
 }

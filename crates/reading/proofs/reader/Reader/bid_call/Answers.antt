@@ -9,4 +9,4 @@ use Rattle.reading.proofs.reader.Reader.bid_call.Needs as need
 
 pub returns : need.returns
 returns c =
-    ap (λ l. got (bids (c .args .lot) (c .in-Continue-bidder .bidder) l) (ahead (c .list .last .self))) (part-offers (c .in-Continue-count .count) (c .list .last .bids) (c .in-Continue-count .ensures tt .bound) (omega arith)) ∙ search needs
+    ap (λ l. got (bids (c .args .lot) (c .in-Continue-bidder .bidder) l) (ahead (c .bid-list .last .self))) (part-offers (c .in-Continue-count .count) (c .bid-list .last .bids) (c .in-Continue-count .ensures tt .bound) (omega arith)) ∙ search needs

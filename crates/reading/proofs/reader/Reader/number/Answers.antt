@@ -13,10 +13,12 @@ returns-then-longer-from c =
 
 pub loop-digit-again : need.loop-digit-again
 loop-digit-again c =
-    let below : 10 * c .loop-digit .number + c .from .result < 4294967296 = omega arith in
-    (below, ap (digits (10 * c .loop-digit .number + c .from .result)) (c .step .ensures)
-    ∙ digits-more (c .loop-digit .number) (c .in-Some .digit) _ (ahead (c .loop-digit .self)) (c .in-Some .ensures tt) (ap (λ d. 10 * c .loop-digit .number + d) (c .from .ensures)) below
-    ∙ c .loop-digit .inv .1)
+    let below : 10 * c .loop-digit .number + c .from .result < 4294967296 = omega arith in (
+      below,
+      ap (digits (10 * c .loop-digit .number + c .from .result)) (c .step .ensures)
+          ∙ digits-more (c .loop-digit .number) (c .in-Some .digit) _ (ahead (c .loop-digit .self)) (c .in-Some .ensures tt) (ap (λ d. 10 * c .loop-digit .number + d) (c .from .ensures)) below
+          ∙ c .loop-digit .inv .1,
+    )
 
 pub returns : need.returns
 returns c =

@@ -1,18 +1,18 @@
-use mathlib.Core.Path.{ap, _∙_}
-use Prim.Native.Nat.{_+_}
-use lib.ListN.{drop}
-use Rattle.reading.specs.Lines.{spelt}
+use mathlib.Core.Path.{_∙_}
+use Rattle.std.proofs.shelf.Results.{err-from-errBy}
 use Rattle.reading.specs.Readers.{ahead}
-use Rattle.reading.proofs.Steps.{spelt-done, spelt-more, spelt-stuck}
+use Rattle.reading.specs.Reads.{got, stuck}
+use Rattle.reading.proofs.Steps.{spelt-done, spelt-more}
 use Rattle.reading.proofs.reader.Reader.word.Needs as need
 
-pub returns-then-not-at : need.returns-then-not-at
-returns-then-not-at c = spelt-stuck (c .args .text .now) (c .loop-byte .byte-index) (c .args .kind) (ahead (c .loop-byte .self)) (c .loop-byte-test .taken) (c .if-not-at .ensures tt) ∙ c .loop-byte .inv
+pub returns-in-Break-byte : need.returns-in-Break-byte
+returns-in-Break-byte c =
+    let p = err-from-errBy (c .from-residual .result) (c .from-residual .ensures .1) in
+    rw (p .1) (spelt-more (c .args .text .now) (c .loop-byte .byte-index) (c .args .kind) (ahead (c .loop-byte .self)) (stuck (ahead (c .byte .last .self))) (c .loop-byte-test .taken) (c .in-Break-byte .ensures tt) ∙ c .loop-byte .inv)
 
 pub loop-byte-again : need.loop-byte-again
 loop-byte-again c =
-    ap (spelt (drop (c .loop-byte .byte-index + 1) (c .args .text .now)) (c .args .kind)) (c .step .ensures)
-    ∙ spelt-more (c .args .text .now) (c .loop-byte .byte-index) (c .args .kind) (ahead (c .loop-byte .self)) (c .loop-byte-test .taken) (c .if-not-at .ensures tt) ∙ c .loop-byte .inv
+    spelt-more (c .args .text .now) (c .loop-byte .byte-index) (c .args .kind) (ahead (c .loop-byte .self)) (got tt (ahead (c .byte .last .self))) (c .loop-byte-test .taken) (c .in-Continue-byte .ensures tt) ∙ c .loop-byte .inv
 
 pub returns : need.returns
 returns c = spelt-done (c .args .text .now) (c .loop-byte .byte-index) (c .args .kind) (ahead (c .loop-byte .self)) (c .loop-byte-test .left) ∙ c .loop-byte .inv
