@@ -21,6 +21,9 @@ use Rattle.wire.specs.Bytes.{bid-in, bids-bytes, bids-in, put}
 use Rattle.wire.proofs.Sixes.{bids-forth, bids-in-more, bids-part}
 use Rattle.wire.proofs.Writing.{length-bids-bytes, length-put}
 use Rattle.reading.proofs.Steps.{begun}
+use Rattle.reading.specs.Calls.{behind}
+use Rattle.reading.specs.declared.kinds.Kind.{Kind}
+use Rattle.reading.specs.declared.kinds.Kind.the-variants.{Open, Bid as BidKind, Ticks, MyBids, Result, Brings, Lot}
 use Rattle.reading.specs.Lines.{bid, bid-list, comma, given, next, several, skip}
 use Rattle.reading.specs.Reads.{Read, got, stuck, then}
 
@@ -112,3 +115,13 @@ part-offers n out few room =
     let long : length (take (6 * n - 0) out) ≡ 6 * n = length-take-le (6 * n - 0) out (omega arith) ∙ cut in
     let count : min (length (take (6 * n - 0) out) / 6) 255 ≡ length (take (6 * n - 0) out) / 6 = omega arith in
     ap (λ k. bids-in k (take (6 * n - 0) out)) count ∙ bids-part n (6 * n - 0) out cut (omega arith)
+
+-- only a bid call has bids
+pub no-bids-behind : (k : Kind) (bs : List ℕ) → (k ≡ BidKind → ⊥) → got [] bs ≡ behind k bs
+no-bids-behind Open bs h = refl
+no-bids-behind BidKind bs h = absurd (h refl)
+no-bids-behind Ticks bs h = refl
+no-bids-behind MyBids bs h = refl
+no-bids-behind Result bs h = refl
+no-bids-behind Brings bs h = refl
+no-bids-behind Lot bs h = refl

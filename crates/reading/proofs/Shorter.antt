@@ -5,18 +5,17 @@ use mathlib.Core.List.{List, [], _∷_}
 use Prim.Native.Nat.{ℕ, zero, suc, _+_, _*_, _^_, _≤_}
 use native.Mathlib.Omega.{arith}
 use lib.Bits.{bitAnd, bitOr}
-use lib.Chars.{codes}
 use lib.Dec.{eqb, ltb}
 use lib.ListN.{drop, length, length-drop}
 use Rattle.std.specs.declared.option.Option.{Option}
 use Rattle.std.specs.declared.option.Option.the-variants.{Some, None}
 use Rattle.auction.specs.Bids.{pick}
 use Rattle.auction.specs.House.{Call}
-use Rattle.reading.specs.Calls.{at, behind, bid-or-brings, call, kind, my-bids-words}
+use Rattle.reading.specs.Calls.{behind, call, front, kind, likely, second, single, words}
 use Rattle.reading.specs.Lines.{bid, bid-list, blank, byte, comma, digit, digit-at, digits, end, field, gap, given, next, number, piece, piece-at, pieces, set-of, several, skip, spelt, starts}
 use Rattle.reading.specs.Reads.{Read, got, stuck, then}
-use Rattle.reading.specs.declared.calls.Kind.{Kind}
-use Rattle.reading.specs.declared.calls.Kind.the-variants.{Open, Bid, Ticks, MyBids, Result, Brings, Lot}
+use Rattle.reading.specs.declared.kinds.Kind.{Kind}
+use Rattle.reading.specs.declared.kinds.Kind.the-variants.{Open, Bid, Ticks, MyBids, Result, Brings, Lot}
 
 -- at most n bytes are left
 abbrev pub Within : {X : Type 0} → ℕ → Read X → Type 0
@@ -49,7 +48,7 @@ gap-within : (n : ℕ) (bs : List ℕ) → length bs ≤ n → Within n (gap bs)
 gap-within n bs h = pick-within n (starts blank bs) _ _ (skip-shorter n bs h) h
 
 byte-within : (n w : ℕ) (bs : List ℕ) → length bs ≤ n → Within n (byte w bs)
-byte-within n w bs h = pick-within n (starts (λ b. eqb b w) bs) _ _ (omega (arith, length-drop 1 bs)) h
+byte-within n w bs h = pick-within n (eqb w 32) _ _ (gap-within n bs h) (pick-within n (starts (λ b. eqb b w) bs) _ _ (omega (arith, length-drop 1 bs)) h)
 
 spelt-within : {X : Type 0} (n : ℕ) (ws : List ℕ) (x : X) (bs : List ℕ) → length bs ≤ n → Within n (spelt ws x bs)
 unfolding spelt
@@ -88,34 +87,26 @@ several-within n (suc m) bs h =
 bid-list-within : (n : ℕ) (bs : List ℕ) → length bs ≤ n → Within n (bid-list bs)
 bid-list-within n bs h = given-within n (next (skip bs)) _ _ (skip-shorter n bs h) (λ _. several-within n 255 (skip bs) (skip-shorter n bs h))
 
-kind-within : (n : ℕ) (bs : List ℕ) → length bs ≤ n → Within n (kind bs)
-kind-within n bs h =
-    pick-within n (at 111 bs) _ _ (spelt-within n (codes "open") Open bs h)
-    (pick-within n (at 98 bs) _ _ (pick-within n (at 114 (drop 1 bs)) _ _ (spelt-within n (codes "brings") Brings bs h) (spelt-within n (codes "bid") Bid bs h))
-    (pick-within n (at 116 bs) _ _ (spelt-within n (codes "ticks") Ticks bs h)
-    (pick-within n (at 109 bs) _ _ (then-within n (spelt (codes "my") MyBids bs) _ (spelt-within n (codes "my") MyBids bs h)
-    (λ _ left k. then-within n (gap left) _ (gap-within n left k) (λ _ more l. spelt-within n (codes "bids") MyBids more l)))
-    (pick-within n (at 114 bs) _ _ (spelt-within n (codes "result") Result bs h)
-    (pick-within n (at 108 bs) _ _ (spelt-within n (codes "lot") Lot bs h) h)))))
+front-within : (n : ℕ) (bs : List ℕ) → length bs ≤ n → Within n (front bs)
+front-within n bs h =
+    let skipped = skip-shorter n bs h in
+    then-within n (kind (skip bs)) _ (given-within n (likely (skip bs)) _ _ skipped (λ k. spelt-within n (words k) k (skip bs) skipped)) (λ k left l.
+    then-within n (field left) _ (field-within n left l) (λ a more e. then-within n (second k more) _ (pick-within n (single k) _ _ e (field-within n more e)) (λ b rest f. f)))
 
-behind-within : (n : ℕ) (k : Kind) (m : ℕ) (bs : List ℕ) → length bs ≤ n → Within n (behind k m bs)
-behind-within n Open m bs h = then-within n (field bs) _ (field-within n bs h) (λ t left l. l)
-behind-within n Bid m bs h =
-    then-within n (field bs) _ (field-within n bs h) (λ b left k.
-    then-within n (byte 58 (skip left)) _ (byte-within n 58 (skip left) (skip-shorter n left k))
-    (λ _ more l. then-within n (bid-list more) _ (bid-list-within n more l) (λ all end e. e)))
-behind-within n Ticks m bs h = h
-behind-within n MyBids m bs h = then-within n (field bs) _ (field-within n bs h) (λ t left l. l)
-behind-within n Result m bs h = then-within n (field bs) _ (field-within n bs h) (λ t left l. l)
-behind-within n Brings m bs h = h
-behind-within n Lot m bs h = h
+behind-within : (n : ℕ) (k : Kind) (bs : List ℕ) → length bs ≤ n → Within n (behind k bs)
+behind-within n Open bs h = h
+behind-within n Bid bs h = then-within n (byte 58 (skip bs)) _ (byte-within n 58 (skip bs) (skip-shorter n bs h)) (λ _ left k. bid-list-within n left k)
+behind-within n Ticks bs h = h
+behind-within n MyBids bs h = h
+behind-within n Result bs h = h
+behind-within n Brings bs h = h
+behind-within n Lot bs h = h
 
 call-within : (n : ℕ) (bs : List ℕ) → length bs ≤ n → Within n (call bs)
 call-within n bs h =
-    then-within n (kind (skip bs)) _ (kind-within n (skip bs) (skip-shorter n bs h)) (λ k left l.
-    then-within n (field left) _ (field-within n left l) (λ m more e.
-    then-within n (behind k m more) _ (behind-within n k m more e) (λ c rest f.
-    then-within n (end rest) _ (given-within n (next (skip rest)) _ _ (skip-shorter n rest f) (λ _. skip-shorter n rest f)) (λ _ none g. g))))
+    then-within n (front bs) _ (front-within n bs h) (λ f left l.
+    then-within n (behind (f .kind) left) _ (behind-within n (f .kind) left l) (λ all rest e.
+    then-within n (end rest) _ (given-within n (next (skip rest)) _ _ (skip-shorter n rest e) (λ _. skip-shorter n rest e)) (λ _ none g. g)))
 
 pub stuck-within : (bs left : List ℕ) → stuck left ≡ call bs → length left ≤ length bs
 stuck-within bs left e = subst (Within (length bs)) (sym e) (call-within (length bs) bs (omega arith))

@@ -37,9 +37,9 @@ skip (b ∷ bs) = pick (blank b) (skip bs) (b ∷ bs)
 abbrev pub gap : List ℕ → Read (Unit {0})
 gap bs = pick (starts blank bs) (got tt (skip bs)) (stuck bs)
 
--- just this byte
+-- just this byte, where a space stands for one blank or more
 abbrev pub byte : ℕ → List ℕ → Read (Unit {0})
-byte w bs = pick (starts (λ b. eqb b w) bs) (got tt (drop 1 bs)) (stuck bs)
+byte w bs = pick (eqb w 32) (gap bs) (pick (starts (λ b. eqb b w) bs) (got tt (drop 1 bs)) (stuck bs))
 
 -- just these bytes, which stand for x
 unfoldable pub spelt : {X : Type 0} → List ℕ → X → List ℕ → Read X

@@ -9,6 +9,7 @@ use wire::Call;
 
 mod calls;
 mod fields;
+mod kinds;
 mod reader;
 
 // Is the line no call, which gets no answer: nothing but blanks, or a remark?

@@ -5,7 +5,7 @@ ghost use lib.Dec.{eqb};
 ghost use lib.ListN.{drop, length};
 ghost use Rattle.reading.specs.Lines.{blank, byte as byte-in, end, gap, next, skip, spelt, starts};
 ghost use Rattle.reading.specs.Readers.{ahead, seen};
-use crate::calls::Kind;
+use crate::kinds::Kind;
 
 // The line can't be read any further: the reader stands at the byte that does not fit.
 #[derive(Clone, Copy)]
@@ -70,10 +70,13 @@ impl<'a> Reader<'a> {
         Ok(())
     }
 
-    // Just this byte.
+    // Just this byte, where a space stands for one blank or more.
     pub fn byte(&mut self, byte: u8) -> Result<(), Unreadable>
         ensures { λ r. ⌜ seen r (now (self .exit)) ≡ byte-in byte (ahead (now (self .entry))) ⌝ }
     {
+        if byte == b' ' {
+            return self.gap();
+        }
         if !self.at(byte) {
             return Err(Unreadable);
         }
@@ -81,8 +84,8 @@ impl<'a> Reader<'a> {
         Ok(())
     }
 
-    // Just this word, which stands for that kind of call.
-    pub fn word(&mut self, text: &[u8], kind: Kind) -> Result<Kind, Unreadable>
+    // Just this text, which stands for that kind of call.
+    pub fn spelt(&mut self, text: &[u8], kind: Kind) -> Result<Kind, Unreadable>
         ensures { λ r. ⌜ seen r (now (self .exit)) ≡ spelt (now (text .entry)) kind (ahead (now (self .entry))) ⌝ }
     {
         for byte in text {

@@ -3,7 +3,7 @@ use Rattle.std.proofs.shelf.Results.{err-from-errBy}
 use Rattle.reading.specs.Readers.{ahead}
 use Rattle.reading.specs.Reads.{got, stuck}
 use Rattle.reading.proofs.Steps.{spelt-done, spelt-more}
-use Rattle.reading.proofs.reader.Reader.word.Needs as need
+use Rattle.reading.proofs.reader.Reader.spelt.Needs as need
 
 pub returns-in-Break-byte : need.returns-in-Break-byte
 returns-in-Break-byte c =
