@@ -5,12 +5,12 @@ use mathlib.Core.List.{List, [], _∷_, _++_}
 use Prim.Native.Nat.{ℕ, zero, suc, _+_, _-_, _*_, _/_, _<_, _≤_, min}
 use borrow.Rule.Slice.PartMut.{midOf}
 use native.Mathlib.Omega.{arith}
-use lib.Dec.{eqb}
+use lib.Dec.{ltb}
 use lib.ListN.{drop, length, take}
 use Rattle.std.proofs.shelf.Lists.{append-assoc, append-nil, drop-at, length-take-le, take-at}
-use Rattle.std.specs.Options.{isSome}
-use Rattle.std.specs.declared.option.Option.{Option}
-use Rattle.std.proofs.shelf.Tests.{and-from, and-left, and-right, eq-eqb, lt-ltb, ne-eqb, not-from-false, not-from-true, true≢false}
+use Rattle.std.specs.declared.option.Option.the-variants.{Some, None}
+use Rattle.std.proofs.shelf.Tests.{and-from, and-parts, lt-ltb, ltb-true}
+use Rattle.std.proofs.shelf.Ways.{tells}
 use Rattle.auction.specs.Bids.{Bid, Bids, pick}
 use Rattle.auction.specs.Promise.{fields-of}
 use Rattle.bundles.specs.Masks.{bits}
@@ -58,25 +58,25 @@ written-more n out after b room h is =
     let new : bids-in 1 behind ≡ meant b ∷ [] = bids-forth (meant b ∷ []) _ (fields-fit b h) in
     bids-in-more n after ∙ ap₂ (λ l k. l ++ k) same (ap (λ l. bid-in l ∷ []) last ∙ new)
 
-abbrev list-at : List ℕ → Read Bids
-list-at from = given (next from) (got [] from) (λ _. several 255 from)
-
 -- whether there are any bids
-module _ (bs from : List ℕ) (p : Option ℕ) (skipped : from ≡ skip bs) (is : p ≡ next from) where
-  pub list-none : isSome p ≡ false → got [] from ≡ bid-list bs
-  list-none none = ends from p is none ∙ ap list-at skipped
-    where
-      ends : (l : List ℕ) (p : Option ℕ) → p ≡ next l → isSome p ≡ false → got [] l ≡ list-at l
-      ends [] p e f = refl
-      ends (b ∷ l) p e f = absurd (true≢false (sym (ap isSome e) ∙ f))
+module _ (bs from : List ℕ) (skipped : from ≡ skip bs) where
+  abbrev list-at : List ℕ → Read Bids
+  list-at l = given (next l) (got [] l) (λ _. several 255 l)
 
-  pub list-some : isSome p ≡ true → several 255 from ≡ bid-list bs
-  list-some some = begun (next from) p (got [] from) (several 255 from) is some ∙ ap list-at skipped
+  pub list-none : None ≡ next from → got [] from ≡ bid-list bs
+  list-none e = ap (λ o. given o (got [] from) (λ _. several 255 from)) e ∙ ap list-at skipped
+
+  pub list-some : (b : ℕ) → Some b ≡ next from → several 255 from ≡ bid-list bs
+  list-some b e = begun (next from) b (got [] from) (several 255 from) e ∙ ap list-at skipped
+
+-- another bid follows only where there is room for it
+pub list-room : (n : ℕ) (t goes : Bool) → t ≡ (goes && ltb (n + 1) 255) → t ≡ true → n + 1 < 255
+list-room n t goes told e = ltb-true (n + 1) 255 (and-parts goes _ (sym told ∙ e) .1)
 
 -- a turn of the loop, which begins behind n bids at bs; the bid that is read there ends where left begins
 module _ (n : ℕ) (out bs left : List ℕ) (whole : Read Bids) (few : n < 255) (room : length out ≡ 1530) (was : onto (bids-in n out) (several (255 - n) bs) ≡ whole) where
   abbrev more : ℕ → Bid → List ℕ → Read Bids
-  more m b behind = pick (comma (skip behind) && not (eqb m 0)) (then (several m (skip (drop 1 (skip behind)))) (λ all end. got (b ∷ all) end)) (got (b ∷ []) (skip behind))
+  more m b behind = pick (comma (skip behind) && ltb 0 m) (then (several m (skip (drop 1 (skip behind)))) (λ all end. got (b ∷ all) end)) (got (b ∷ []) (skip behind))
 
   unrolled : (r : Read Bid) → r ≡ bid bs → onto (bids-in n out) (then r (more (254 - n))) ≡ whole
   unfolding several
@@ -87,26 +87,23 @@ module _ (n : ℕ) (out bs left : List ℕ) (whole : Read Bids) (few : n < 255) 
   pub list-stuck : stuck left ≡ bid bs → stuck left ≡ whole
   list-stuck e = unrolled (stuck left) e
 
-  module _ (b : Value) (after from : List ℕ) (price : b .price < 4294967296) (read : got (meant b) left ≡ bid bs) (written : after ≡ put out (6 * n) (bids-bytes (meant b ∷ []))) (skipped : from ≡ skip left) where
+  -- t says whether another bid follows, from which the line goes on
+  module _ (b : Value) (after from : List ℕ) (t : Bool) (price : b .price < 4294967296) (read : got (meant b) left ≡ bid bs) (written : after ≡ put out (6 * n) (bids-bytes (meant b ∷ []))) (told : t ≡ (comma (skip left) && ltb (n + 1) 255)) (rest : from ≡ pick t (skip (drop 1 (skip left))) (skip left)) where
     now-in : bids-in (n + 1) after ≡ bids-in n out ++ (meant b ∷ [])
     now-in = written-more n out after b (omega arith) price written
 
-    last : (comma (skip left) && not (eqb (254 - n) 0)) ≡ false → got (bids-in (n + 1) after) from ≡ whole
-    last e = ap₂ (λ l k. got l k) now-in skipped ∙ ap (onto (bids-in n out)) (sym (pick-no _ _ e)) ∙ unrolled (got (meant b) left) read
+    same : (comma (skip left) && ltb 0 (254 - n)) ≡ t
+    same = let room : ltb 0 (254 - n) ≡ ltb (n + 1) 255 = grind (arith, tells) in ap (λ u. comma (skip left) && u) room ∙ sym told
 
-    pub list-full : n + 1 ≡ 255 → got (bids-in (n + 1) after) from ≡ whole
-    list-full e = last (and-right _ _ (not-from-true _ (eq-eqb (254 - n) 0 (omega arith))))
+    pub list-done : t ≡ false → got (bids-in (n + 1) after) from ≡ whole
+    list-done e =
+        ap₂ (λ l k. got l k) now-in (rest ∙ pick-no _ _ e) ∙ ap (onto (bids-in n out)) (sym (pick-no _ _ (same ∙ e))) ∙ unrolled (got (meant b) left) read
 
-    pub list-over : false ≡ comma from → got (bids-in (n + 1) after) from ≡ whole
-    list-over e = last (and-left _ _ (ap comma (sym skipped) ∙ sym e))
-
-    pub list-more : (behind next : List ℕ) → (n + 1 ≡ 255 → ⊥) → true ≡ comma from → behind ≡ drop 1 from → next ≡ skip behind → onto (bids-in (n + 1) after) (several (255 - (n + 1)) next) ≡ whole
-    list-more behind next less e step skips =
+    pub list-more : t ≡ true → onto (bids-in (n + 1) after) (several (255 - (n + 1)) from) ≡ whole
+    list-more e =
         let one : 255 - (n + 1) ≡ 254 - n = omega arith in
-        let on : next ≡ skip (drop 1 (skip left)) = skips ∙ ap skip (step ∙ ap (drop 1) skipped) in
-        let goes : (comma (skip left) && not (eqb (254 - n) 0)) ≡ true = and-from _ _ (ap comma (sym skipped) ∙ sym e) (not-from-false _ (ne-eqb (254 - n) 0 (λ z. less (omega arith)))) in
-        ap₂ (λ k l. onto (bids-in (n + 1) after) (several k l)) one on ∙ ap (λ l. onto l (several (254 - n) (skip (drop 1 (skip left))))) now-in ∙ onto-onto (bids-in n out) (meant b) _
-        ∙ ap (onto (bids-in n out)) (sym (pick-yes _ _ goes)) ∙ unrolled (got (meant b) left) read
+        ap₂ (λ k l. onto (bids-in (n + 1) after) (several k l)) one (rest ∙ pick-yes _ _ e) ∙ ap (λ l. onto l (several (254 - n) (skip (drop 1 (skip left))))) now-in
+        ∙ onto-onto (bids-in n out) (meant b) _ ∙ ap (onto (bids-in n out)) (sym (pick-yes _ _ (same ∙ e))) ∙ unrolled (got (meant b) left) read
 
 -- the part of the bytes that was written has just these bids
 pub part-offers : (n : ℕ) (out : List ℕ) → n ≤ 255 → 1530 ≤ length out → bids-in (min (length (midOf 0 (6 * n - 0) out) / 6) 255) (midOf 0 (6 * n - 0) out) ≡ bids-in n out

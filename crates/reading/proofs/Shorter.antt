@@ -82,7 +82,7 @@ several-within n (suc m) bs h =
     (λ b left k.
     let from = skip-shorter n left k in
     let next = skip-shorter n (drop 1 (skip left)) (omega (arith, length-drop 1 (skip left))) in
-    pick-within n (comma (skip left) && not (eqb m 0)) _ _ (then-within n (several m (skip (drop 1 (skip left)))) _ (several-within n m (skip (drop 1 (skip left))) next) (λ all end l. l)) from)
+    pick-within n (comma (skip left) && ltb 0 m) _ _ (then-within n (several m (skip (drop 1 (skip left)))) _ (several-within n m (skip (drop 1 (skip left))) next) (λ all end l. l)) from)
 
 bid-list-within : (n : ℕ) (bs : List ℕ) → length bs ≤ n → Within n (bid-list bs)
 bid-list-within n bs h = given-within n (next (skip bs)) _ _ (skip-shorter n bs h) (λ _. several-within n 255 (skip bs) (skip-shorter n bs h))

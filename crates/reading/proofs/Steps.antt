@@ -11,7 +11,6 @@ use Rattle.std.specs.declared.option.Option.{Option}
 use Rattle.std.specs.declared.option.Option.the-variants.{Some, None}
 use Rattle.std.proofs.shelf.Lists.{at-drop-more, at-drop-all}
 use Rattle.std.proofs.shelf.Tests.{eq-eqb, false≢true, ne-eqb, lt-ltb, le-ltb, true≢false}
-use Rattle.std.specs.Options.{isSome}
 use Rattle.auction.specs.Bids.{pick}
 use Rattle.bundles.proofs.Picks.{pick-yes, pick-no}
 use Rattle.reading.specs.Lines.{blank, byte, digit-at, digits, given, next, piece-at, pieces, skip, spelt, starts}
@@ -38,9 +37,8 @@ module _ {X : Type 0} (ws : List ℕ) (i : ℕ) (x : X) (bs : List ℕ) where
   spelt-done h = sym (at-drop-all (λ w. spelt w x bs) ws i h)
 
 -- something is there, so that its kind of thing begins
-pub begun : {A X : Type 0} (o p : Option A) (x y : X) → p ≡ o → isSome p ≡ true → y ≡ given o x (λ _. y)
-begun None p x y e some = absurd (false≢true (sym (ap isSome e) ∙ some))
-begun (Some a) p x y e some = refl
+pub begun : {A X : Type 0} (o : Option A) (a : A) (x y : X) → Some a ≡ o → y ≡ given o x (λ _. y)
+begun o a x y e = ap (λ p. given p x (λ _. y)) e
 
 -- a number: one digit more, one too many, and its end
 module _ (n : ℕ) where

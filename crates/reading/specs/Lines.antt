@@ -96,7 +96,7 @@ comma bs = starts (λ b. eqb b 44) bs
 unfoldable pub several : ℕ → List ℕ → Read Bids
 several zero bs = stuck bs
 several (suc n) bs =
-    then (bid bs) (λ b left. pick (comma (skip left) && not (eqb n 0)) (then (several n (skip (drop 1 (skip left)))) (λ more behind. got (b ∷ more) behind)) (got (b ∷ []) (skip left)))
+    then (bid bs) (λ b left. pick (comma (skip left) && ltb 0 n) (then (several n (skip (drop 1 (skip left)))) (λ more behind. got (b ∷ more) behind)) (got (b ∷ []) (skip left)))
 
 -- all the bids of a call: none where the line ends, and 255 at most
 abbrev pub bid-list : List ℕ → Read Bids

@@ -1,15 +1,21 @@
 // The parts of a call's line behind its first words: numbers, sets and bids.
 ghost use Prim.Native.Nat.{_^_, _<_, _≤_};
+ghost use mathlib.Core.Bool.{_&&_};
 ghost use mathlib.Core.Path.{_≡_};
+ghost use lib.ListN.{drop};
 ghost use Rattle.std.specs.Vec.{made};
+ghost use Rattle.auction.specs.Bids.{pick};
 ghost use Rattle.bundles.specs.Offers.{meant};
-ghost use Rattle.reading.specs.Lines.{bid, bid-list, digit-at, field, number, piece-at, set-of};
+ghost use Rattle.reading.specs.Lines.{bid, bid-list, comma, digit-at, field, number, piece-at, set-of, skip};
 ghost use Rattle.reading.specs.Readers.{ahead, listed, seen, seen-as};
 use crate::reader::Reader;
 use crate::reader::Unreadable;
 use bundles::Bid;
 use bundles::Bundle;
 use wire::put_bid;
+
+// Numbers are below this.
+const NUMBERS: u64 = 4294967296;
 
 // As many bids as a call carries.
 const MOST_BIDS: usize = 255;
@@ -21,21 +27,32 @@ impl<'a> Reader<'a> {
         ensures bound { λ r. ⌜ made r (λ n. n ≤ 255) ⌝ }
     {
         self.blanks();
-        if self.peek().is_none() {
+        let Some(_) = self.peek() else {
             return Ok(0);
-        }
+        };
         let mut count = 0;
         loop {
             let bid = self.bid()?;
             put_bid(bids, 6 * count, bid);
             count += 1;
-            self.blanks();
-            if count == MOST_BIDS || !self.at(b',') {
+            if !self.another(count < MOST_BIDS) {
                 return Ok(count);
             }
-            self.step();
-            self.blanks();
         }
+    }
+
+    // Goes over a comma, and the blanks around it, if one may follow.
+    fn another(&mut self, may: bool) -> bool
+        ensures told { λ r. ⌜ r ≡ (comma (skip (ahead (now (self .entry)))) && may) ⌝ }
+        ensures rest { λ r. ⌜ ahead (now (self .exit)) ≡ pick r (skip (drop 1 (skip (ahead (now (self .entry)))))) (skip (ahead (now (self .entry)))) ⌝ }
+    {
+        self.blanks();
+        if !self.at(b',') || !may {
+            return false;
+        }
+        self.step();
+        self.blanks();
+        true
     }
 
     // A set and a price.
@@ -62,13 +79,13 @@ impl<'a> Reader<'a> {
     fn number(&mut self) -> Result<u32, Unreadable>
         ensures { λ r. ⌜ seen r (now (self .exit)) ≡ number (ahead (now (self .entry))) ⌝ }
     {
-        if self.digit().is_none() {
+        let Some(_) = self.digit() else {
             return Err(Unreadable);
-        }
+        };
         let mut number: u64 = 0;
         while let Some(digit) = self.digit() {
             let longer = 10 * number + u64::from(digit);
-            if longer > u64::from(u32::MAX) {
+            if longer >= NUMBERS {
                 return Err(Unreadable);
             }
             number = longer;
@@ -90,9 +107,9 @@ impl<'a> Reader<'a> {
     fn set(&mut self) -> Result<u16, Unreadable>
         ensures { λ r. ⌜ seen r (now (self .exit)) ≡ set-of (ahead (now (self .entry))) ⌝ }
     {
-        if self.piece().is_none() {
+        let Some(_) = self.piece() else {
             return Err(Unreadable);
-        }
+        };
         let mut mask: u16 = 0;
         while let Some(piece) = self.piece() {
             let bit = bit(piece);

@@ -99,9 +99,9 @@ impl<'a> Reader<'a> {
         ensures { λ r. ⌜ seen r (now (self .exit)) ≡ end (ahead (now (self .entry))) ⌝ }
     {
         self.blanks();
-        if self.peek().is_some() {
-            return Err(Unreadable);
+        match self.peek() {
+            None => Ok(()),
+            Some(_) => Err(Unreadable),
         }
-        Ok(())
     }
 }
