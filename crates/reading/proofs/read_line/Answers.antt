@@ -1,0 +1,6 @@
+use Rattle.reading.specs.Readers.{ahead}
+use Rattle.reading.proofs.Shorter.{stuck-within}
+use Rattle.reading.proofs.read_line.Needs as need
+
+pub sub-result : need.sub-result
+sub-result c = stuck-within (c .args .line .now) (ahead (c .call .last .self)) (c .in-Err .ensures tt)

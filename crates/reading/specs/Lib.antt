@@ -1,0 +1,4 @@
+pub mod Calls
+pub mod Lines
+pub mod Readers
+pub mod Reads
