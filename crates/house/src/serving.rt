@@ -1,6 +1,13 @@
 // Lines in, answers out.
+ghost use mathlib.Core.List.{_++_};
+ghost use mathlib.Core.Path.{_≡_};
+ghost use Rattle.std.specs.Of.String.{string-bytes};
+ghost use Rattle.std.specs.Vec.{made};
+ghost use Rattle.house.specs.Desk.{answered, body};
 use printing::Line;
 use printing::LineDisplay;
+use reading::is_silent;
+use reading::read_line;
 use session::answer;
 use std::fmt;
 use std::fmt::Write;
@@ -8,7 +15,6 @@ use std::io;
 use std::io::BufRead;
 use std::io::BufReader;
 use std::io::Read;
-use wire::read_call;
 
 // Answers each line. The answers are written when no further line is at hand: at once to who types, in batches to who sends a file.
 pub fn serve<R: Read + Drop>(rt: &LibcRuntime, input: R) -> io::Result<()> {
@@ -33,14 +39,24 @@ pub fn serve<R: Read + Drop>(rt: &LibcRuntime, input: R) -> io::Result<()> {
 }
 
 // A line without its line end.
-fn without_end(line: &[u8]) -> &[u8] {
-    match line {
-        [front @ .., b'\n'] => front,
-        _ => line,
+fn without_end(line: &[u8]) -> &[u8]
+    ensures { λ r. ⌜ now r ≡ body (now (line .entry)) ⌝ }
+{
+    let size = line.len();
+    if size == 0 || line[size - 1] != b'\n' {
+        return line;
     }
+    &line[0..size - 1]
 }
 
-fn answer_line(line: &[u8], out: &mut String) -> fmt::Result {
-    let said = Line(answer(read_call(line)));
-    write!(out, "{said}\n")
+// Answers a line, if it is to be answered, with a line behind what was written so far.
+fn answer_line(line: &[u8], out: &mut String) -> fmt::Result
+    ensures { λ r. ⌜ made r (λ _. string-bytes (now (out .exit)) ≡ string-bytes (now (out .entry)) ++ answered (now (line .entry))) ⌝ }
+{
+    if is_silent(line) {
+        return Ok(());
+    }
+    let mut bids = [0; 1530];
+    let said = Line(answer(read_line(line, &mut bids)));
+    writeln!(out, "{said}")
 }

@@ -18,7 +18,7 @@ use Rattle.bundles.specs.Offers.{meant}
 use Rattle.bundles.specs.declared.Bid.{Bid as Value}
 use Rattle.bundles.proofs.Picks.{pick-yes, pick-no}
 use Rattle.wire.specs.Bytes.{bid-in, bids-bytes, bids-in, put}
-use Rattle.wire.proofs.Sixes.{bids-forth, bids-in-more, bids-part}
+use Rattle.wire.proofs.SixBytes.{bids-forth, bids-in-more, bids-part}
 use Rattle.wire.proofs.Writing.{length-bids-bytes, length-put}
 use Rattle.reading.proofs.Steps.{begun}
 use Rattle.reading.specs.Calls.{behind}
