@@ -1,0 +1,38 @@
+-- Places in the lent memory: what lies within what, and what lies apart. One lemma, `past`, carries the products. Assumes nothing.
+use mathlib.Core.Path.{_≡_, refl, sym, ap, _∙_}
+use mathlib.Core.Bool.{true}
+use mathlib.Core.Logic.{⊎-elim}
+use Prim.Native.Nat.{ℕ, suc, _+_, _*_, _/_, _%_, _≤_, _<_}
+use native.Mathlib.Nat.{suc-mul, mul-le-mul-right}
+use native.Mathlib.Omega.{arith}
+use lib.Dec.{leb}
+use Rattle.std.proofs.shelf.Bits.{mul-le, div-mul-add, mod-mul-add}
+use Rattle.std.proofs.shelf.Tests.{cases-order}
+use Rattle.std.proofs.shelf.Ways.{tells}
+use Rattle.std.specs.Orderings.{Decides}
+use Rattle.ledger.specs.declared.layout.Limits.{Limits}
+use Rattle.ledger.specs.Layout.{Good, good, lot-at, row-at, row-size, tables-at, house-words}
+
+-- before a later row there is room for an earlier one
+pub past : (q r e : ℕ) → q < r → q * e + e ≤ r * e
+past q r e h = omega (arith, suc-mul q e, mul-le-mul-right e h)
+
+-- rows are numbered by lot and bidder
+pub row-number : (k b n m : ℕ) → k < n → b < m → k * m + b < n * m
+row-number k b n m hk hb = omega (arith, past k n m hk)
+
+pub good-facts : (l : Limits) → Decides (good l) (Good l)
+good-facts l = (λ e. grind (arith, tells), λ h. grind (arith, tells))
+
+-- all rows together
+pub rows-bound : (l : Limits) → Good l → l .lots * l .bidders * l .each ≤ 2097152
+rows-bound l h = mul-le (l .lots * l .bidders) (l .each) 131072 16 (mul-le (l .lots) (l .bidders) 4096 32 (h .0) (h .2)) (h .3)
+
+-- a row ends where the tables begin, or before
+pub row-within : (l : Limits) (k b : ℕ) → k < l .lots → b < l .bidders → row-at l k b + row-size l ≤ tables-at l
+row-within l k b hk hb =
+    omega (arith, past (k * l .bidders + b) (l .lots * l .bidders) (l .each) (row-number k b (l .lots) (l .bidders) hk hb))
+
+-- of two rows one ends where the other begins, or before
+pub row-before : (l : Limits) (k b j c : ℕ) → k * l .bidders + b < j * l .bidders + c → row-at l k b + row-size l ≤ row-at l j c
+row-before l k b j c h = omega (arith, past (k * l .bidders + b) (j * l .bidders + c) (l .each) h)
