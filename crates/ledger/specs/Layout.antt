@@ -26,6 +26,12 @@ row-size l = 2 * l .each
 abbrev pub row-at : Limits → ℕ → ℕ → ℕ
 row-at l k b = lot-at (l .lots) + 2 * ((k * l .bidders + b) * l .each)
 
+-- there is such a row
+pub record Has-row (l : Limits) (k b : ℕ) : Type 0 where
+  pub good : Good l
+  pub lot : k < l .lots
+  pub bidder : b < l .bidders
+
 -- where the tables begin, and how many words the house has
 abbrev pub tables-at : Limits → ℕ
 tables-at l = lot-at (l .lots) + 2 * (l .lots * l .bidders * l .each)

@@ -2,3 +2,4 @@
 pub use layout::Limits;
 
 pub mod layout;
+pub mod rows;
