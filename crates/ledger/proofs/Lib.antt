@@ -1,2 +1,4 @@
 pub mod Places
 pub mod RowWords
+pub mod Houses
+pub mod Opened

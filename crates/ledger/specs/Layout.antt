@@ -15,6 +15,13 @@ good l = leb (l .lots) 4096 && (leb 1 (l .bidders) && (leb (l .bidders) 32 && le
 abbrev pub Good : Limits → Type 0
 Good l = (l .lots ≤ 4096) × (0 < l .bidders) × (l .bidders ≤ 32) × (l .each ≤ 16)
 
+-- the header's words: the limits come first, then the time, and how many lots are open so far; three are spare
+abbrev pub now-at : ℕ
+now-at = 3
+
+abbrev pub count-at : ℕ
+count-at = 4
+
 -- where a lot begins; the rows begin where one lot more would
 abbrev pub lot-at : ℕ → ℕ
 lot-at k = 8 + 8 * k

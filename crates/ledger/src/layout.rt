@@ -4,7 +4,13 @@ ghost use Prim.Native.Nat.{_+_, _≤_};
 ghost use mathlib.Core.Path.{_≡_};
 ghost use Rattle.ledger.specs.Layout.{Good, Has-row, good, house-words, lot-at, needed, row-at, row-size, tables-at};
 
-// The words of the header, of a lot, and of a bid.
+// The header's words: the limits, the time, and how many lots are open so far; three are spare.
+pub const LOTS: usize = 0;
+pub const BIDDERS: usize = 1;
+pub const EACH: usize = 2;
+pub const NOW: usize = 3;
+pub const COUNT: usize = 4;
+// How many words the header has, a lot, and a bid.
 const HEADER: usize = 8;
 const LOT: usize = 8;
 const BID: usize = 2;
