@@ -1,15 +1,15 @@
 -- Rows of bids as words: how a row is read from the front, how it is written, and that what was written is read back. Assumes nothing.
 use mathlib.Core.Path.{_≡_, refl, sym, ap, ap₂, subst, _∙_}
-use mathlib.Core.Bool.{Bool, true, false, cond}
+use mathlib.Core.Bool.{Bool, true, false, cond, _&&_}
 use mathlib.Core.List.{List, [], _∷_, _++_, map}
 use Prim.Native.Nat.{ℕ, zero, suc, _+_, _-_, _*_, _%_, _^_, _≤_, _<_}
-use native.Mathlib.Numerals.{add-one}
+use native.Mathlib.Nat.{mod-eq-of-lt}
 use native.Mathlib.Omega.{arith}
-use lib.Dec.{eqb, ltb}
+use lib.Dec.{eqb, leb, ltb}
 use lib.ListN.{length, getD, take, drop, set, replicate}
 use borrow.Rule.Slice.PartMut.{putMid}
-use Rattle.std.proofs.shelf.Lists.{take-at, append-assoc, append-nil, drop-drop, drop-at, drop-all, drop-more, length-append, length-map, length-push, map-push, map-more, take-all, set-append-right, drop-set, length-take-le, length-drop, length-replicate}
-use Rattle.std.proofs.shelf.Tests.{eq-eqb, ne-eqb, lt-ltb}
+use Rattle.std.proofs.shelf.Lists.{take-at, append-assoc, append-nil, drop-drop, drop-at, drop-all, drop-more, length-append, length-map, length-push, map-push, map-more, take-all, set-append-right, drop-set, length-take-le, length-drop, length-replicate, getD-replicate}
+use Rattle.std.proofs.shelf.Tests.{and-parts, eq-eqb, eqb-true, leb-true, lt-ltb, ltb-true, ne-eqb}
 use Rattle.auction.specs.Bids.{Bid, Bids, pick}
 use Rattle.bundles.proofs.Picks.{pick-yes, pick-no}
 use Rattle.bundles.proofs.Sets.{mask-bits, bits-mask, mask-below}
@@ -18,7 +18,7 @@ use Rattle.bundles.specs.Offers.{meant, all-meant}
 use Rattle.bundles.specs.declared.Bid.{Bid as Value}
 use Rattle.ledger.specs.declared.layout.Limits.{Limits}
 use Rattle.ledger.specs.Layout.{row-at, row-size, house-words}
-use Rattle.ledger.specs.Words.{bid-of, bids-in, bid-words, row-words, with-row}
+use Rattle.ledger.specs.Words.{bid-of, bids-in, bid-words, row-words, with-row, writable}
 
 -- the two words at the front of what is left
 drop-two : (ws : List ℕ) (i : ℕ) → i + 1 < length ws → drop i ws ≡ getD ws i 0 ∷ getD ws (i + 1) 0 ∷ drop (i + 2) ws
@@ -125,3 +125,69 @@ put-row l m new k b at size bs e s room is =
     let back : drop (at + size - at) (drop at m) ≡ drop (row-at l k b + row-size l) m = drop-drop _ at m ∙ ap (λ j. drop j m) (omega arith) in
     ap₂ (λ xs ys. xs ++ (ys ++ drop (at + size - at) (drop at m))) (ap (λ j. take j m) e) (is ∙ ap (λ n. row-words n bs) part)
     ∙ ap (λ xs. take (row-at l k b) m ++ (row-words (row-size l) bs ++ xs)) back
+
+-- words that are all 0 hold no bids
+pub bids-zero : (ws : List ℕ) → ((i : ℕ) → i < length ws → getD ws i 0 ≡ 0) → bids-in ws ≡ []
+unfolding bids-in
+bids-zero [] none = refl
+bids-zero (p ∷ []) none = refl
+bids-zero (p ∷ s ∷ ws) none = pick-yes _ _ (eq-eqb p 0 (none 0 (omega arith)))
+
+-- a set of sixteen comes back from its word
+set-back : (s : List Bool) → length s ≡ 16 → bits 16 (mask-of s % 65536) ≡ s
+set-back s e =
+    let below : mask-of s < 65536 = subst (λ n. mask-of s < 2 ^ n) e (mask-below s) in
+    ap (bits 16) (mod-eq-of-lt below) ∙ ap (λ n. bits n (mask-of s)) (sym e) ∙ bits-mask s
+
+-- what a writable bid is, and those behind it
+pub record First (b : Bid) (bs : Bids) : Type 0 where
+  pub price : 1 ≤ b .price
+  pub word : b .price < 4294967296
+  pub on : length (b .on) ≡ 16
+  pub others : writable bs ≡ true
+
+pub first : (b : Bid) (bs : Bids) → writable (b ∷ bs) ≡ true → First b bs
+unfolding writable
+first b bs e =
+    let both = and-parts (leb 1 (b .price) && ltb (b .price) 4294967296) _ e in
+    let price = and-parts (leb 1 (b .price)) _ (both .0) in
+    let rest = and-parts (eqb (length (b .on)) 16) _ (both .1) in
+    record { price = leb-true _ _ (price .0); word = ltb-true _ _ (price .1); on = eqb-true _ _ (rest .0); others = rest .1 }
+
+-- bids that were written are read back
+read-words : (bs : Bids) (ws : List ℕ) → writable bs ≡ true → bids-in ws ≡ [] → bids-in (bid-words bs ++ ws) ≡ bs
+unfolding bids-in bid-words
+read-words [] ws w none = none
+read-words (b ∷ bs) ws w none =
+    let f = first b bs w in
+    let price = f .price in
+    pick-no _ _ (ne-eqb (b .price) 0 (λ e. omega arith))
+    ∙ ap₂ {C = Bids} (λ s xs. record { on = s; price = b .price } ∷ xs) (set-back (b .on) (f .on)) (read-words bs ws (f .others) none)
+
+pub read-back : (n : ℕ) (bs : Bids) → writable bs ≡ true → bids-in (row-words n bs) ≡ bs
+unfolding row-words
+read-back n bs w = read-words bs _ w (bids-zero _ (λ i h. getD-replicate (n - 2 * length bs) i 0 0 (omega (arith, length-replicate {A = ℕ} (n - 2 * length bs) 0))))
+
+pub length-row-words : (n : ℕ) (bs : Bids) → 2 * length bs ≤ n → length (row-words n bs) ≡ n
+unfolding row-words
+length-row-words n bs h =
+    omega (arith, length-append (bid-words bs) (replicate (n - 2 * length bs) 0), length-bid-words bs, length-replicate {A = ℕ} (n - 2 * length bs) 0)
+
+-- and each word fits
+zeros-below : (k i : ℕ) → getD (replicate k 0) i 0 < 4294967296
+zeros-below zero i = omega arith
+zeros-below (suc k) zero = omega arith
+zeros-below (suc k) (suc i) = zeros-below k i
+
+words-below : (bs : Bids) (k : ℕ) → writable bs ≡ true → (i : ℕ) → getD (bid-words bs ++ replicate k 0) i 0 < 4294967296
+unfolding bid-words
+words-below [] k w i = zeros-below k i
+words-below (b ∷ bs) k w zero = first b bs w .word
+words-below (b ∷ bs) k w (suc zero) =
+    let f = first b bs w in
+    let below : mask-of (b .on) < 65536 = subst (λ n. mask-of (b .on) < 2 ^ n) (f .on) (mask-below (b .on)) in omega arith
+words-below (b ∷ bs) k w (suc (suc i)) = words-below bs k (first b bs w .others) i
+
+pub row-below : (n : ℕ) (bs : Bids) → writable bs ≡ true → (i : ℕ) → getD (row-words n bs) i 0 < 4294967296
+unfolding row-words
+row-below n bs w i = words-below bs _ w i

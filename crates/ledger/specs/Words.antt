@@ -1,8 +1,9 @@
 -- A row of bids as words, and what a row of words means, for any words. Assumes nothing: these are definitions.
 -- A bid is two words, its price and its set as bits, piece 0 the lowest; a price of 0, which no bid has, ends the row.
+use mathlib.Core.Bool.{Bool, true, _&&_}
 use mathlib.Core.List.{List, [], _∷_, _++_}
 use Prim.Native.Nat.{ℕ, _+_, _-_, _*_, _%_}
-use lib.Dec.{eqb}
+use lib.Dec.{eqb, leb, ltb}
 use lib.ListN.{length, drop, take, replicate}
 use Rattle.auction.specs.Bids.{Bid, Bids, pick}
 use Rattle.bundles.specs.Masks.{bits, mask-of}
@@ -26,6 +27,11 @@ bid-words (b ∷ bs) = b .price ∷ mask-of (b .on) ∷ bid-words bs
 
 unfoldable pub row-words : ℕ → Bids → List ℕ
 row-words n bs = bid-words bs ++ replicate (n - 2 * length bs) 0
+
+-- bids that a row of words can hold and give back: a price that is not 0 and fits a word, and a set of sixteen bits
+unfoldable pub writable : Bids → Bool
+writable [] = true
+writable (b ∷ bs) = (leb 1 (b .price) && ltb (b .price) 4294967296) && (eqb (length (b .on)) 16 && writable bs)
 
 -- the row of a bidder on a lot: its words in the memory, and its bids
 abbrev pub row-part : Limits → List ℕ → ℕ → ℕ → List ℕ
