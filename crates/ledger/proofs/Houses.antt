@@ -77,3 +77,14 @@ standing m e =
 
 pub stands-by : (m : List ℕ) (h : Header) → h ≡ header-in m → fits h (length m) ≡ true → Stands m h
 stands-by m h e t = subst (λ x. Stands m x) (sym e) (standing m (ap (λ x. fits x (length m)) (sym e) ∙ t))
+
+-- what a house is by its header's words
+pub same-limits : (m w : List ℕ) → getD w 0 0 ≡ getD m 0 0 → getD w 1 0 ≡ getD m 1 0 → getD w 2 0 ≡ getD m 2 0 → limits-in w ≡ limits-in m
+same-limits m w a b c = cc
+
+pub same-header : (m w : List ℕ) (t n : ℕ) → limits-in w ≡ limits-in m → getD w now-at 0 ≡ t → getD w count-at 0 ≡ n → header-in w ≡ record { limits = limits-in m; now = t; count = n }
+same-header m w t n e a b = cc
+
+pub house-by : (w : List ℕ) (l : Limits) (t n : ℕ) → limits-in w ≡ l → getD w now-at 0 ≡ t → getD w count-at 0 ≡ n → house-in w ≡ record { now = t; lots = map (lot-in l w) (counting 0 n) }
+unfolding house-in
+house-by w l t n e a b = ap₂ {C = House} (λ x y. record { now = x; lots = map (lot-in y w) (counting 0 (getD w count-at 0)) }) a e ∙ ap {B = House} (λ x. record { now = t; lots = map (lot-in l w) (counting 0 x) }) b

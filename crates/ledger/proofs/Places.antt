@@ -36,3 +36,16 @@ row-within l k b hk hb =
 -- of two rows one ends where the other begins, or before
 pub row-before : (l : Limits) (k b j c : ℕ) → k * l .bidders + b < j * l .bidders + c → row-at l k b + row-size l ≤ row-at l j c
 row-before l k b j c h = omega (arith, past (k * l .bidders + b) (j * l .bidders + c) (l .each) h)
+
+-- a row's number tells its lot and its bidder
+pub same-number : (k b j c m : ℕ) → b < m → c < m → k * m + b ≡ j * m + c → (k ≡ j) × (b ≡ c)
+same-number k b j c m hb hc e =
+    (sym (div-mul-add k m b hb) ∙ ap (λ n. n / m) e ∙ div-mul-add j m c hc, sym (mod-mul-add k m b hb) ∙ ap (λ n. n % m) e ∙ mod-mul-add j m c hc)
+
+-- a lot ends where the rows begin, or before
+pub lot-within : (l : Limits) (k j c : ℕ) → k < l .lots → lot-at k + 8 ≤ row-at l j c
+lot-within l k j c h = omega arith
+
+-- of the bidders' rows on one lot the first begins first
+pub first-row : (l : Limits) (k b : ℕ) → row-at l k 0 ≤ row-at l k b
+first-row l k b = let later : k * l .bidders + 0 ≤ k * l .bidders + b = omega arith in omega (arith, mul-le-mul-right (l .each) later)
