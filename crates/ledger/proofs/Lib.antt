@@ -2,5 +2,9 @@ pub mod Parts
 pub mod Places
 pub mod RowWords
 pub mod Houses
+pub mod Sounds
+pub mod RowDeeds
+pub mod TimeDeeds
+pub mod LotDeeds
 pub mod Opened
-pub mod Deeds
+pub mod LedgerLaws

@@ -2,3 +2,4 @@ pub mod Layout
 pub mod Words
 pub mod Houses
 pub mod Opening
+pub mod Laws

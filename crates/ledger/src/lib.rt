@@ -12,6 +12,7 @@ pub use standing::Header;
 pub use standing::set_now;
 pub use standing::stands;
 
+pub mod laws;
 pub mod layout;
 pub mod lots;
 pub mod opening;
