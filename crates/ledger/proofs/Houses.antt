@@ -1,17 +1,19 @@
 -- The house that words hold. Assumes nothing.
 use mathlib.Core.Path.{_≡_, refl, sym, ap, ap₂, subst, _∙_}
-use mathlib.Core.Bool.{true, _&&_}
+use mathlib.Core.Bool.{true, false, _&&_}
+use mathlib.Core.Logic.{⊎-elim}
 use mathlib.Core.List.{List, [], _∷_, _++_, map}
-use Prim.Native.Nat.{ℕ, _+_, _-_, _≤_, _<_}
+use Prim.Native.Nat.{ℕ, suc, _+_, _-_, _≤_, _<_}
 use native.Mathlib.Nat.{zero-add}
 use native.Mathlib.Omega.{arith}
 use lib.Dec.{leb, ltb}
 use lib.ListN.{length, getD, take, drop, set}
 use Rattle.std.specs.Iters.{counting}
 use Rattle.std.proofs.shelf.Counted.{length-map-counting, getD-map-counting}
-use Rattle.std.proofs.shelf.Tests.{and-parts, and-from, leb-true, ltb-true, le-leb, lt-ltb}
+use Rattle.std.proofs.shelf.Tests.{cases-bool, and-parts, and-from, leb-true, ltb-true, le-leb, lt-ltb}
 use Rattle.auction.specs.Bids.{Bids}
 use Rattle.auction.specs.House.{House, Lot, the-lot}
+use Rattle.auction.specs.Promise.{all-below}
 use Rattle.ledger.specs.declared.layout.Limits.{Limits}
 use Rattle.ledger.specs.declared.standing.Header.{Header}
 use Rattle.ledger.specs.Layout.{Good, good, now-at, count-at, lot-at, house-words}
@@ -42,6 +44,10 @@ pub facts-fit : (h : Header) (n : ℕ) → Fits-facts h n → fits h n ≡ true
 facts-fit h n f =
     and-from _ _ (good-facts (h .limits) .1 (f .good)) (and-from _ _ (le-leb _ _ (f .room)) (and-from _ _ (le-leb _ _ (f .few)) (lt-ltb _ _ (f .early))))
 
+pub house-facts : (m : List ℕ) → is-house m ≡ true → Fits-facts (header-in m) (length m)
+unfolding is-house
+house-facts m e = fits-facts (header-in m) (length m) e
+
 -- the lots of the house that words hold, by their places
 pub many-lots : (m : List ℕ) → length (house-in m .lots) ≡ getD m count-at 0
 unfolding house-in
@@ -56,7 +62,7 @@ bids-there l m k b h = getD-map-counting (bids-at l m k) 0 (l .bidders) b b [] h
 
 -- what the header of a house tells
 pub standing : (m : List ℕ) → is-house m ≡ true → Stands m (header-in m)
-unfolding house-in
+unfolding house-in is-house
 standing m e =
     let f = fits-facts (header-in m) (length m) e in
     let l = limits-in m in
@@ -76,6 +82,7 @@ standing m e =
     }
 
 pub stands-by : (m : List ℕ) (h : Header) → h ≡ header-in m → fits h (length m) ≡ true → Stands m h
+unfolding is-house
 stands-by m h e t = subst (λ x. Stands m x) (sym e) (standing m (ap (λ x. fits x (length m)) (sym e) ∙ t))
 
 -- what a house is by its header's words
@@ -88,3 +95,17 @@ same-header m w t n e a b = cc
 pub house-by : (w : List ℕ) (l : Limits) (t n : ℕ) → limits-in w ≡ l → getD w now-at 0 ≡ t → getD w count-at 0 ≡ n → house-in w ≡ record { now = t; lots = map (lot-in l w) (counting 0 n) }
 unfolding house-in
 house-by w l t n e a b = ap₂ {C = House} (λ x y. record { now = x; lots = map (lot-in y w) (counting 0 (getD w count-at 0)) }) a e ∙ ap {B = House} (λ x. record { now = t; lots = map (lot-in l w) (counting 0 x) }) b
+
+pub no-house-by : (m : List ℕ) (h : Header) → h ≡ header-in m → fits h (length m) ≡ false → is-house m ≡ false
+unfolding is-house
+no-house-by m h e t = ap (λ x. fits x (length m)) (sym e) ∙ t
+
+-- no house is smaller than one with one bidder and no lots
+pub too-short : (m : List ℕ) → length m < 655360 → is-house m ≡ false
+too-short m h = ⊎-elim (λ e. let f = house-facts m e in absurd (omega (arith, f .good .1, f .room))) (λ e. e) (cases-bool (is-house m))
+
+-- words that fit, as the promise of enough memory says it
+pub all-fit : (m : List ℕ) → ((i : ℕ) → getD m i 0 < 4294967296) → all-below 4294967296 m ≡ true
+unfolding all-below
+all-fit [] below = refl
+all-fit (x ∷ m) below = and-from _ _ (lt-ltb x _ (below 0)) (all-fit m (λ i. below (suc i)))

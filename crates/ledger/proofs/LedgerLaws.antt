@@ -43,7 +43,7 @@ no-word-twice = λ l i.
       lots = λ k j one other. omega arith;
       rows = rows-apart l i;
       lot-row = λ k j c h one other. omega (arith, lot-within l k j c h);
-      header = λ k j c one low. omega arith;
+      header = λ k one low. omega arith;
       tables = λ k b hk hb one. omega (arith, row-within l k b hk hb);
     }
 

@@ -20,7 +20,7 @@ use Rattle.ledger.specs.Houses.{limits-in, limits-of, header-in, made-in, lot-
 use Rattle.ledger.proofs.Parts.{same-part, length-over, over-below, over-above, over-within, part-over, map-same, map-change}
 use Rattle.ledger.proofs.Places.{past, row-number, row-within, row-before, same-number, lot-within, first-row}
 use Rattle.ledger.proofs.RowWords.{length-row-words, read-back, row-below, bids-zero}
-use Rattle.ledger.proofs.Houses.{Fits-facts, fits-facts, facts-fit, lot-there, same-limits, same-header, house-by}
+use Rattle.ledger.proofs.Houses.{Fits-facts, house-facts, lot-there, same-limits, same-header, house-by}
 use Rattle.ledger.proofs.Sounds.{same-lot, sound-by}
 
 -- nobody has bid
@@ -67,7 +67,7 @@ module _ (m : List ℕ) (k p t : ℕ) (room : lot-at k + 1 < length m) where
 -- one lot more at the next place
 module _ (m : List ℕ) (n p t : ℕ) (s : Sound m) (here : getD m count-at 0 ≡ n) (more : n < getD m 0 0) where
   lot-facts : Fits-facts (header-in m) (length m)
-  lot-facts = fits-facts (header-in m) (length m) (s .house)
+  lot-facts = house-facts m (s .house)
 
   fits-lot : lot-at n + 1 < length m
   fits-lot = omega (arith, lot-facts .room)
@@ -83,6 +83,7 @@ module _ (m : List ℕ) (n p t : ℕ) (s : Sound m) (here : getD m count-at 0 �
 
   -- nor is anything in the new lot's rows yet
   none-yet : (b : ℕ) → b < getD m 1 0 → bids-at (limits-in m) m n b ≡ []
+  unfolding bids-at
   none-yet b h =
       let l = limits-in m in
       let within = row-within l n b more h in
@@ -93,6 +94,7 @@ module _ (m : List ℕ) (n p t : ℕ) (s : Sound m) (here : getD m count-at 0 �
       (λ i hi. getD-take (row-size l) (drop (row-at l n b) m) i 0 (omega arith) ∙ getD-drop (row-at l n b) m i 0 ∙ zero-rest (row-at l n b + i) (omega arith) (omega arith))
 
   new-lot : lot-in (limits-in m) (with-lot m n p t) n ≡ record { pieces = p; until = t; made = nobody (getD m 1 0) }
+  unfolding bids-at
   new-lot =
       let l = limits-in m in
       let v : List ℕ = with-lot m n p t in

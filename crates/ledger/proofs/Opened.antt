@@ -5,7 +5,8 @@ use Prim.Native.Nat.{ℕ, zero, suc, _+_, _-_, _≤_, _<_}
 use native.Mathlib.Omega.{arith}
 use borrow.Rule.Slice.PartMut.{postOf}
 use lib.ListN.{length, getD, take, drop, set, replicate}
-use Rattle.std.proofs.shelf.Lists.{length-append, length-take-le, length-drop, length-replicate, replicate-append-replicate, getD-append-left, getD-append-right, getD-drop, getD-replicate}
+use Rattle.std.proofs.shelf.Lists.{append-nil, drop-all, length-append, length-take-le, length-drop, length-replicate, replicate-append-replicate, getD-append-left, getD-append-right, getD-drop, getD-replicate}
+use Rattle.auction.specs.House.{new-house}
 use Rattle.ledger.specs.declared.layout.Limits.{Limits}
 use Rattle.ledger.specs.Layout.{Good, house-words}
 use Rattle.ledger.specs.Houses.{house-in, Sound}
@@ -40,7 +41,7 @@ below-opened l m g below (suc (suc zero)) = omega (arith, g .3)
 below-opened l m g below (suc (suc (suc i))) =
     zeros-below (suc (suc (suc (suc (suc (house-words l - 8)))))) (drop (house-words l) m) (λ j. subst (λ x. x < 4294967296) (sym (getD-drop (house-words l) m j 0)) (below (house-words l + j))) i
 
-length-new : (l : Limits) → length (new-words l) ≡ house-words l
+pub length-new : (l : Limits) → length (new-words l) ≡ house-words l
 length-new l = omega (arith, length-replicate {A = ℕ} (house-words l - 8) 0)
 
 -- behind the header it is empty
@@ -71,3 +72,19 @@ pub new-house-opened : (l : Limits) (m : List ℕ) → Good l → house-words l 
 unfolding opened house-in
 new-house-opened l m g room below =
     record { sound = opened-sound l m g room below; limits = refl; house = refl; len = length-opened l m room; behind = behind-opened l m }
+
+-- where the memory has just as many words as the house asks for
+pub opened-exact : (l : Limits) (m : List ℕ) → length m ≡ house-words l → opened l m ≡ new-words l
+unfolding opened
+opened-exact l m e = ap (λ xs. new-words l ++ xs) (drop-all (house-words l) m (omega arith)) ∙ append-nil (new-words l)
+
+pub new-sound : (l : Limits) → Good l → Sound (new-words l)
+new-sound l g =
+    let m : List ℕ = replicate (house-words l) 0 in
+    let long : length m ≡ house-words l = length-replicate (house-words l) 0 in
+    let below : (i : ℕ) → getD m i 0 < 4294967296 = λ i. subst (λ xs. getD xs i 0 < 4294967296) (append-nil m) (zeros-below (house-words l) [] (λ j. omega arith) i) in
+    subst Sound (opened-exact l m long) (opened-sound l m g (omega arith) below)
+
+pub new-is-new : (l : Limits) → house-in (new-words l) ≡ new-house
+unfolding house-in
+new-is-new l = refl

@@ -49,3 +49,9 @@ lot-within l k j c h = omega arith
 -- of the bidders' rows on one lot the first begins first
 pub first-row : (l : Limits) (k b : ℕ) → row-at l k 0 ≤ row-at l k b
 first-row l k b = let later : k * l .bidders + 0 ≤ k * l .bidders + b = omega arith in omega (arith, mul-le-mul-right (l .each) later)
+
+-- the rows of the lots that are not open yet begin before the tables
+pub rows-before-tables : (l : Limits) (n : ℕ) → n ≤ l .lots → row-at l n 0 ≤ tables-at l
+rows-before-tables l n h =
+    let none : n * l .bidders + 0 ≡ n * l .bidders = omega arith in
+    omega (arith, mul-le-mul-right (l .each) (mul-le-mul-right (l .bidders) h), ap (λ q. q * l .each) none)

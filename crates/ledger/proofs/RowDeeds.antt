@@ -20,7 +20,7 @@ use Rattle.ledger.specs.Houses.{limits-in, limits-of, header-in, made-in, lot-
 use Rattle.ledger.proofs.Parts.{same-part, length-over, over-below, over-above, over-within, part-over, map-same, map-change}
 use Rattle.ledger.proofs.Places.{past, row-number, row-within, row-before, same-number, lot-within, first-row}
 use Rattle.ledger.proofs.RowWords.{length-row-words, read-back, row-below, bids-zero}
-use Rattle.ledger.proofs.Houses.{Fits-facts, fits-facts, facts-fit, lot-there, same-limits, same-header, house-by}
+use Rattle.ledger.proofs.Houses.{Fits-facts, house-facts, lot-there, same-limits, same-header, house-by}
 use Rattle.ledger.proofs.Sounds.{same-lot, sound-by}
 
 -- a row of bids is written
@@ -49,7 +49,7 @@ module _ (l : Limits) (m : List ℕ) (k b : ℕ) (bs : Bids) (hk : k < l .lots) 
   with-row-within = over-within m (row-words (row-size l) bs) (row-at l k b) (row-size l) fits-row whole
 
   pub row-there : writable bs ≡ true → bids-at l (with-row l m k b bs) k b ≡ bs
-  unfolding with-row
+  unfolding with-row bids-at
   row-there w = ap bids-in (part-over m (row-words (row-size l) bs) (row-at l k b) (row-size l) fits-row whole) ∙ read-back (row-size l) bs w
 
   pub other-row : (j c : ℕ) → j * l .bidders + c ≢ k * l .bidders + b → row-part l (with-row l m k b bs) j c ≡ row-part l m j c
@@ -67,6 +67,7 @@ module _ (l : Limits) (m : List ℕ) (k b : ℕ) (bs : Bids) (hk : k < l .lots) 
       (λ c hc. other-row j c (λ e. ne (same-number j c k b (l .bidders) hc hb e .0)))
 
   this-lot : writable bs ≡ true → lot-in l (with-row l m k b bs) k ≡ record { pieces = lot-in l m k .pieces; until = lot-in l m k .until; made = set (made-in l m k) b bs }
+  unfolding bids-at
   this-lot w =
       let low = lot-within l k k b hk in
       let pieces : getD (with-row l m k b bs) (lot-at k) 0 ≡ getD m (lot-at k) 0 = with-row-below _ (omega arith) in
@@ -79,7 +80,7 @@ module _ (l : Limits) (m : List ℕ) (k b : ℕ) (bs : Bids) (hk : k < l .lots) 
 -- the words of a house after a row was written, from what the header says
 module _ (m : List ℕ) (k b : ℕ) (bs : Bids) (house : is-house m ≡ true) (hk : k < getD m count-at 0) (hb : b < getD m 1 0) (few : length bs ≤ getD m 2 0) where
   facts : Fits-facts (header-in m) (length m)
-  facts = fits-facts (header-in m) (length m) house
+  facts = house-facts m house
 
   there : k < getD m 0 0
   there = omega (arith, facts .few)

@@ -9,8 +9,10 @@ use lib.Dec.{eqb, leb, ltb}
 use lib.ListN.{length, getD, take, drop, set, replicate}
 use borrow.Rule.Slice.PartMut.{putMid}
 use Rattle.std.proofs.shelf.Lists.{take-at, append-assoc, append-nil, drop-drop, drop-at, drop-all, drop-more, length-append, length-map, length-push, map-push, map-more, take-all, set-append-right, drop-set, length-take-le, length-drop, length-replicate, getD-replicate}
-use Rattle.std.proofs.shelf.Tests.{and-parts, eq-eqb, eqb-true, leb-true, lt-ltb, ltb-true, ne-eqb}
+use Rattle.std.proofs.shelf.Tests.{and-from, and-parts, eq-eqb, eqb-true, leb-true, lt-ltb, ltb-true, ne-eqb}
 use Rattle.auction.specs.Bids.{Bid, Bids, pick}
+use Rattle.auction.specs.House.{any, prices-fine}
+use Rattle.auction.specs.Promise.{field, fields-of}
 use Rattle.bundles.proofs.Picks.{pick-yes, pick-no}
 use Rattle.bundles.proofs.Sets.{mask-bits, bits-mask, mask-below}
 use Rattle.bundles.specs.Masks.{bits, mask-of}
@@ -18,7 +20,7 @@ use Rattle.bundles.specs.Offers.{meant, all-meant}
 use Rattle.bundles.specs.declared.Bid.{Bid as Value}
 use Rattle.ledger.specs.declared.layout.Limits.{Limits}
 use Rattle.ledger.specs.Layout.{row-at, row-size, house-words}
-use Rattle.ledger.specs.Words.{bid-of, bids-in, bid-words, row-words, with-row, writable}
+use Rattle.ledger.specs.Words.{bid-of, bids-in, bid-words, row-words, bids-at, with-row, writable}
 
 -- the two words at the front of what is left
 drop-two : (ws : List ℕ) (i : ℕ) → i + 1 < length ws → drop i ws ≡ getD ws i 0 ∷ getD ws (i + 1) 0 ∷ drop (i + 2) ws
@@ -126,6 +128,11 @@ put-row l m new k b at size bs e s room is =
     ap₂ (λ xs ys. xs ++ (ys ++ drop (at + size - at) (drop at m))) (ap (λ j. take j m) e) (is ∙ ap (λ n. row-words n bs) part)
     ∙ ap (λ xs. take (row-at l k b) m ++ (row-words (row-size l) bs ++ xs)) back
 
+pub part-bids : (l : Limits) (m : List ℕ) (k b at size : ℕ) → at ≡ row-at l k b → size ≡ row-size l → bids-in (take (at + size - at) (drop at m)) ≡ bids-at l m k b
+unfolding bids-at
+part-bids l m k b at size e s =
+    let long : at + size - at ≡ row-size l = omega arith in ap₂ (λ n j. bids-in (take n (drop j m))) long e
+
 -- words that are all 0 hold no bids
 pub bids-zero : (ws : List ℕ) → ((i : ℕ) → i < length ws → getD ws i 0 ≡ 0) → bids-in ws ≡ []
 unfolding bids-in
@@ -191,3 +198,14 @@ words-below (b ∷ bs) k w (suc (suc i)) = words-below bs k (first b bs w .other
 pub row-below : (n : ℕ) (bs : Bids) → writable bs ≡ true → (i : ℕ) → getD (row-words n bs) i 0 < 4294967296
 unfolding row-words
 row-below n bs w i = words-below bs _ w i
+
+-- the bids of a call that is taken are writable
+pub call-writable : (bs : Bids) → prices-fine bs ≡ true → fields-of bs ≡ true → writable bs ≡ true
+unfolding prices-fine fields-of writable
+call-writable [] p f = refl
+call-writable (b ∷ bs) p f =
+    let one = and-parts (leb 1 (b .price) && leb (b .price) 1000000000) _ p in
+    let two = and-parts (field (b .price) && eqb (length (b .on)) 16) _ f in
+    let word = and-parts (field (b .price)) _ (two .0) in
+    let rest = and-parts (any (b .on)) _ (one .1) in
+    and-from _ _ (and-from _ _ (and-parts (leb 1 (b .price)) _ (one .0) .0) (word .0)) (and-from _ _ (word .1) (call-writable bs (rest .1) (two .1)))

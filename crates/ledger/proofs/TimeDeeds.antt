@@ -20,13 +20,13 @@ use Rattle.ledger.specs.Houses.{limits-in, limits-of, header-in, made-in, lot-
 use Rattle.ledger.proofs.Parts.{same-part, length-over, over-below, over-above, over-within, part-over, map-same, map-change}
 use Rattle.ledger.proofs.Places.{past, row-number, row-within, row-before, same-number, lot-within, first-row}
 use Rattle.ledger.proofs.RowWords.{length-row-words, read-back, row-below, bids-zero}
-use Rattle.ledger.proofs.Houses.{Fits-facts, fits-facts, facts-fit, lot-there, same-limits, same-header, house-by}
+use Rattle.ledger.proofs.Houses.{Fits-facts, house-facts, lot-there, same-limits, same-header, house-by}
 use Rattle.ledger.proofs.Sounds.{same-lot, sound-by}
 
 -- the time is set
 module _ (m : List ℕ) (t : ℕ) (house : is-house m ≡ true) where
   now-facts : Fits-facts (header-in m) (length m)
-  now-facts = fits-facts (header-in m) (length m) house
+  now-facts = house-facts m house
 
   now-other : (i : ℕ) → i ≢ now-at → getD (with-now m t) i 0 ≡ getD m i 0
   now-other i ne = getD-set-other m now-at i t 0 ne

@@ -43,7 +43,7 @@ house-in m = record { now = getD m now-at 0; lots = map (lot-in (limits-in m) m)
 abbrev pub fits : Header → ℕ → Bool
 fits h n = good (h .limits) && (leb (house-words (h .limits)) n && (leb (h .count) (h .limits .lots) && ltb (h .now) 16777216))
 
-abbrev pub is-house : List ℕ → Bool
+unfoldable pub is-house : List ℕ → Bool
 is-house m = fits (header-in m) (length m)
 
 -- what a header tells of the memory that it stands in: the words, their bounds, and the house that they hold

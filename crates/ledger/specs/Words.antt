@@ -37,7 +37,7 @@ writable (b ∷ bs) = (leb 1 (b .price) && ltb (b .price) 4294967296) && (eqb (l
 abbrev pub row-part : Limits → List ℕ → ℕ → ℕ → List ℕ
 row-part l m k b = take (row-size l) (drop (row-at l k b) m)
 
-abbrev pub bids-at : Limits → List ℕ → ℕ → ℕ → Bids
+unfoldable pub bids-at : Limits → List ℕ → ℕ → ℕ → Bids
 bids-at l m k b = bids-in (row-part l m k b)
 
 -- the memory with these bids in that row, and all other words as they were

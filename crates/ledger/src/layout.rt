@@ -17,6 +17,8 @@ const BID: usize = 2;
 // What the tables take for each bidder, and for all together beside the header.
 const TABLE: usize = 131072;
 const TABLES: usize = 524280;
+// No house has fewer words: one bidder, and no lots.
+pub const FEWEST: usize = HEADER + TABLE + TABLES;
 
 // How many lots there may be, how many bidders, and how many bids each may have on a lot.
 #[derive(Clone, Copy, PartialEq, Eq)]

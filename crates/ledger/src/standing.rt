@@ -8,6 +8,7 @@ ghost use Rattle.ledger.specs.Houses.{Stands, fits, header-in, is-house, with-
 use crate::layout::BIDDERS;
 use crate::layout::COUNT;
 use crate::layout::EACH;
+use crate::layout::FEWEST;
 use crate::layout::LOTS;
 use crate::layout::Limits;
 use crate::layout::NOW;
@@ -28,7 +29,7 @@ pub struct Header {
 pub fn stands(memory: &[u32]) -> Option<Header>
     ensures { λ r. ⌜ Cases r (is-house (now (memory .entry)) ≡ false) (λ h. Stands (now (memory .entry)) h) ⌝ }
 {
-    if memory.len() < 8 {
+    if memory.len() < FEWEST {
         return None;
     }
     let header = read_header(memory);
