@@ -1,22 +1,21 @@
 -- The house that words hold. Assumes nothing.
 use mathlib.Core.Path.{_≡_, refl, sym, ap, ap₂, subst, _∙_}
-use mathlib.Core.Bool.{true, false, _&&_}
+use mathlib.Core.Bool.{true, false}
 use mathlib.Core.Logic.{⊎-elim}
-use mathlib.Core.List.{List, [], _∷_, _++_, map}
-use Prim.Native.Nat.{ℕ, suc, _+_, _-_, _≤_, _<_}
+use mathlib.Core.List.{List, [], _∷_, map}
+use Prim.Native.Nat.{ℕ, suc, _≤_, _<_}
 use native.Mathlib.Nat.{zero-add}
 use native.Mathlib.Omega.{arith}
-use lib.Dec.{leb, ltb}
-use lib.ListN.{length, getD, take, drop, set}
+use lib.Dec.{leb}
+use lib.ListN.{length, getD}
 use Rattle.std.specs.Iters.{counting}
 use Rattle.std.proofs.shelf.Counted.{length-map-counting, getD-map-counting}
 use Rattle.std.proofs.shelf.Tests.{cases-bool, and-parts, and-from, leb-true, ltb-true, le-leb, lt-ltb}
-use Rattle.auction.specs.Bids.{Bids}
 use Rattle.auction.specs.House.{House, Lot, the-lot}
 use Rattle.auction.specs.Promise.{all-below}
 use Rattle.ledger.specs.declared.layout.Limits.{Limits}
 use Rattle.ledger.specs.declared.standing.Header.{Header}
-use Rattle.ledger.specs.Layout.{Good, good, now-at, count-at, lot-at, house-words}
+use Rattle.ledger.specs.Layout.{Good, good, now-at, count-at, house-words}
 use Rattle.ledger.specs.Words.{bids-at}
 use Rattle.ledger.specs.Houses.{limits-in, header-in, made-in, lot-in, house-in, fits, is-house, Stands}
 use Rattle.ledger.proofs.Places.{good-facts}

@@ -1,7 +1,6 @@
 -- The laws of the lent memory, from the lemmas by subject. Assumes nothing.
-use mathlib.Core.Path.{_≡_, refl, sym, ap, _∙_}
-use mathlib.Core.Bool.{true}
-use mathlib.Core.Logic.{⊎-elim, _≢_}
+use mathlib.Core.Path.{_≡_, refl}
+use mathlib.Core.Logic.{⊎-elim}
 use mathlib.Core.List.{List}
 use Prim.Native.Nat.{ℕ, _+_, _*_, _≤_, _<_}
 use native.Mathlib.Omega.{arith}
@@ -9,10 +8,10 @@ use lib.ListN.{length, getD}
 use Rattle.std.proofs.shelf.Tests.{cases-lt, cases-order}
 use Rattle.auction.specs.Bids.{Bids}
 use Rattle.ledger.specs.declared.layout.Limits.{Limits}
-use Rattle.ledger.specs.Layout.{Has-row, now-at, count-at, lot-at, row-at, row-size, tables-at, house-words}
+use Rattle.ledger.specs.Layout.{Has-row, count-at, row-at, row-size, house-words}
 use Rattle.ledger.specs.Words.{with-row, row-words}
 use Rattle.ledger.specs.Houses.{house-in}
-use Rattle.ledger.specs.Laws.{Opened-is-new, Words-promised, In-lot, In-row, Apart, No-word-twice, Row-written, Rows-come-back, Bids-land, Lots-land, Time-lands}
+use Rattle.ledger.specs.Laws.{Opened-is-new, Words-promised, In-row, No-word-twice, Row-written, Rows-come-back, Bids-land, Lots-land, Time-lands}
 use Rattle.ledger.proofs.Parts.{over-over}
 use Rattle.ledger.proofs.Places.{row-within, row-before, same-number, lot-within}
 use Rattle.ledger.proofs.RowWords.{length-row-words}

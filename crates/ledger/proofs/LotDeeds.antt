@@ -1,26 +1,24 @@
 -- One lot more: what that does to the house that the words hold, and that it leaves them sound. Assumes nothing.
 use mathlib.Core.Path.{_≡_, refl, sym, ap, ap₂, subst, _∙_}
-use mathlib.Core.Bool.{Bool, true}
-use mathlib.Core.Logic.{_⊎_, inl, inr, ⊎-elim, _≢_}
+use mathlib.Core.Bool.{Bool}
+use mathlib.Core.Logic.{_⊎_, ⊎-elim, _≢_}
 use mathlib.Core.List.{List, [], _∷_, _++_, map}
-use Prim.Native.Nat.{ℕ, zero, suc, _+_, _-_, _*_, _≤_, _<_}
+use Prim.Native.Nat.{ℕ, zero, suc, _+_, _≤_, _<_}
 use native.Mathlib.Omega.{arith}
-use lib.ListN.{length, getD, take, drop, set}
+use lib.ListN.{length, getD, drop, set}
 use Rattle.std.specs.Iters.{counting}
 use Rattle.std.proofs.shelf.Counted.{map-counting-more}
-use Rattle.std.proofs.shelf.Lists.{length-set, getD-set-same, getD-set-other, length-take, length-drop, getD-take, getD-drop}
-use Rattle.std.proofs.shelf.Tests.{cases-eq, cases-lt, cases-order}
+use Rattle.std.proofs.shelf.Lists.{length-set, getD-set-same, getD-set-other, length-take, getD-take, getD-drop}
+use Rattle.std.proofs.shelf.Tests.{cases-eq}
 use Rattle.auction.specs.Bids.{Bids}
-use Rattle.auction.specs.House.{House, Lot, the-lot, nobody, changed, bids, opens, ticks}
-use Rattle.ledger.specs.declared.layout.Limits.{Limits}
-use Rattle.ledger.specs.declared.standing.Header.{Header}
-use Rattle.ledger.specs.Layout.{Good, now-at, count-at, lot-at, row-at, row-size, tables-at, house-words}
-use Rattle.ledger.specs.Words.{bids-in, row-words, row-part, bids-at, with-row, writable}
-use Rattle.ledger.specs.Houses.{limits-in, limits-of, header-in, made-in, lot-in, house-in, fits, is-house, Sound, with-now, with-lot}
-use Rattle.ledger.proofs.Parts.{same-part, length-over, over-below, over-above, over-within, part-over, map-same, map-change}
-use Rattle.ledger.proofs.Places.{past, row-number, row-within, row-before, same-number, lot-within, first-row}
-use Rattle.ledger.proofs.RowWords.{length-row-words, read-back, row-below, bids-zero}
-use Rattle.ledger.proofs.Houses.{Fits-facts, house-facts, lot-there, same-limits, same-header, house-by}
+use Rattle.auction.specs.House.{House, Lot, nobody, changed, opens}
+use Rattle.ledger.specs.Layout.{now-at, count-at, lot-at, row-at, row-size, house-words}
+use Rattle.ledger.specs.Words.{bids-in, row-part, bids-at}
+use Rattle.ledger.specs.Houses.{limits-in, limits-of, header-in, made-in, lot-in, house-in, Sound, with-lot}
+use Rattle.ledger.proofs.Parts.{same-part, map-same}
+use Rattle.ledger.proofs.Places.{past, row-within, row-before, lot-within, first-row}
+use Rattle.ledger.proofs.RowWords.{bids-zero}
+use Rattle.ledger.proofs.Houses.{Fits-facts, house-facts, same-limits, same-header, house-by}
 use Rattle.ledger.proofs.Sounds.{same-lot, sound-by}
 
 -- nobody has bid

@@ -1,14 +1,14 @@
 -- Lists with a part written over, and lists made by counting with one element changed. Assumes nothing.
-use mathlib.Core.Path.{_≡_, refl, sym, ap, ap₂, subst, _∙_}
-use mathlib.Core.Logic.{_⊎_, inl, inr, ⊎-elim, _≢_}
-use mathlib.Core.List.{List, [], _∷_, _++_, map}
+use mathlib.Core.Path.{_≡_, refl, sym, ap, ap₂, _∙_}
+use mathlib.Core.Logic.{_⊎_, ⊎-elim, _≢_}
+use mathlib.Core.List.{List, _++_, map}
 use Prim.Native.Nat.{ℕ, zero, suc, _+_, _-_, _≤_, _<_}
 use native.Mathlib.Nat.{zero-add}
 use native.Mathlib.Omega.{arith}
 use lib.ListN.{length, getD, take, drop, set}
 use Rattle.std.specs.Iters.{counting}
 use Rattle.std.proofs.shelf.Counted.{length-map-counting, getD-map-counting, fill-by-all}
-use Rattle.std.proofs.shelf.Lists.{same-lists, length-append, length-take, length-take-le, length-drop, length-set, take-at, drop-at, drop-drop, append-assoc, getD-append-left, getD-append-right, getD-take, getD-drop, getD-set-same, getD-set-other, getD-default}
+use Rattle.std.proofs.shelf.Lists.{same-lists, length-append, length-take, length-take-le, length-drop, length-set, take-at, drop-at, drop-drop, getD-append-left, getD-append-right, getD-take, getD-drop, getD-set-same, getD-set-other, getD-default}
 use Rattle.std.proofs.shelf.Tests.{cases-eq}
 
 -- two lists with the same words in a part have the same part

@@ -1,17 +1,13 @@
 -- Places in the lent memory: what lies within what, and what lies apart. One lemma, `past`, carries the products. Assumes nothing.
-use mathlib.Core.Path.{_≡_, refl, sym, ap, _∙_}
-use mathlib.Core.Bool.{true}
-use mathlib.Core.Logic.{⊎-elim}
-use Prim.Native.Nat.{ℕ, suc, _+_, _*_, _/_, _%_, _≤_, _<_}
+use mathlib.Core.Path.{_≡_, sym, ap, _∙_}
+use Prim.Native.Nat.{ℕ, _+_, _*_, _/_, _%_, _≤_, _<_}
 use native.Mathlib.Nat.{suc-mul, mul-le-mul-right}
 use native.Mathlib.Omega.{arith}
-use lib.Dec.{leb}
 use Rattle.std.proofs.shelf.Bits.{mul-le, div-mul-add, mod-mul-add}
-use Rattle.std.proofs.shelf.Tests.{cases-order}
 use Rattle.std.proofs.shelf.Ways.{tells}
 use Rattle.std.specs.Orderings.{Decides}
 use Rattle.ledger.specs.declared.layout.Limits.{Limits}
-use Rattle.ledger.specs.Layout.{Good, good, lot-at, row-at, row-size, tables-at, house-words}
+use Rattle.ledger.specs.Layout.{Good, good, lot-at, row-at, row-size, tables-at}
 
 -- before a later row there is room for an earlier one
 pub past : (q r e : ℕ) → q < r → q * e + e ≤ r * e

@@ -1,25 +1,25 @@
 -- Rows of bids as words: how a row is read from the front, how it is written, and that what was written is read back. Assumes nothing.
 use mathlib.Core.Path.{_≡_, refl, sym, ap, ap₂, subst, _∙_}
-use mathlib.Core.Bool.{Bool, true, false, cond, _&&_}
-use mathlib.Core.List.{List, [], _∷_, _++_, map}
+use mathlib.Core.Bool.{Bool, true, cond, _&&_}
+use mathlib.Core.List.{List, [], _∷_, _++_}
 use Prim.Native.Nat.{ℕ, zero, suc, _+_, _-_, _*_, _%_, _^_, _≤_, _<_}
 use native.Mathlib.Nat.{mod-eq-of-lt}
 use native.Mathlib.Omega.{arith}
 use lib.Dec.{eqb, leb, ltb}
 use lib.ListN.{length, getD, take, drop, set, replicate}
 use borrow.Rule.Slice.PartMut.{putMid}
-use Rattle.std.proofs.shelf.Lists.{take-at, append-assoc, append-nil, drop-drop, drop-at, drop-all, drop-more, length-append, length-map, length-push, map-push, map-more, take-all, set-append-right, drop-set, length-take-le, length-drop, length-replicate, getD-replicate}
+use Rattle.std.proofs.shelf.Lists.{take-at, append-assoc, append-nil, drop-drop, drop-all, drop-more, length-append, length-map, length-push, map-push, map-more, take-all, set-append-right, length-take-le, length-drop, length-replicate, getD-replicate}
 use Rattle.std.proofs.shelf.Tests.{and-from, and-parts, eq-eqb, eqb-true, leb-true, lt-ltb, ltb-true, ne-eqb}
-use Rattle.auction.specs.Bids.{Bid, Bids, pick}
+use Rattle.auction.specs.Bids.{Bid, Bids}
 use Rattle.auction.specs.House.{any, prices-fine}
 use Rattle.auction.specs.Promise.{field, fields-of}
 use Rattle.bundles.proofs.Picks.{pick-yes, pick-no}
-use Rattle.bundles.proofs.Sets.{mask-bits, bits-mask, mask-below}
+use Rattle.bundles.proofs.Sets.{bits-mask, mask-below}
 use Rattle.bundles.specs.Masks.{bits, mask-of}
 use Rattle.bundles.specs.Offers.{meant, all-meant}
 use Rattle.bundles.specs.declared.Bid.{Bid as Value}
 use Rattle.ledger.specs.declared.layout.Limits.{Limits}
-use Rattle.ledger.specs.Layout.{row-at, row-size, house-words}
+use Rattle.ledger.specs.Layout.{row-at, row-size}
 use Rattle.ledger.specs.Words.{bid-of, bids-in, bid-words, row-words, bids-at, with-row, writable}
 
 -- the two words at the front of what is left
@@ -54,10 +54,11 @@ read-more old new b r i j k ws inv len few room ne e is made full =
     let yes : r ≡ true = full ∙ lt-ltb (length old) 16 (omega arith) in
     let now : new ≡ old ++ b ∷ [] = made ∙ ap (λ t. cond t (old ++ b ∷ []) old) yes in
     let rest : List ℕ = drop (i + 2) ws in
-    let step : bids-in (drop i ws) ≡ meant b ∷ bids-in rest = bids-more ws i room ne ∙ ap (λ x. x ∷ bids-in rest) (sym is) in
-    (ap₂ (λ xs n. all-meant xs ++ bids-in (drop n ws)) now e ∙ ap (λ xs. xs ++ bids-in rest) (map-push meant old b) ∙ append-assoc (all-meant old) (meant b ∷ []) _
-    ∙ ap (λ xs. all-meant old ++ xs) (sym step) ∙ inv,
-    ap length now ∙ length-push old b ∙ ap (λ n. n + 1) len)
+    let step : bids-in (drop i ws) ≡ meant b ∷ bids-in rest = bids-more ws i room ne ∙ ap (λ x. x ∷ bids-in rest) (sym is) in (
+      ap₂ (λ xs n. all-meant xs ++ bids-in (drop n ws)) now e ∙ ap (λ xs. xs ++ bids-in rest) (map-push meant old b) ∙ append-assoc (all-meant old) (meant b ∷ []) _
+          ∙ ap (λ xs. all-meant old ++ xs) (sym step) ∙ inv,
+      ap length now ∙ length-push old b ∙ ap (λ n. n + 1) len,
+    )
 
 -- the words of bids, one after the other
 pub length-bid-words : (bs : Bids) → length (bid-words bs) ≡ 2 * length bs

@@ -7,9 +7,9 @@ use lib.ListN.{length, getD}
 use Rattle.auction.specs.Bids.{Bids}
 use Rattle.auction.specs.House.{bids, opens, ticks, changed, new-house}
 use Rattle.ledger.specs.declared.layout.Limits.{Limits}
-use Rattle.ledger.specs.Layout.{Good, Has-row, now-at, count-at, lot-at, row-at, row-size, tables-at, house-words}
+use Rattle.ledger.specs.Layout.{Good, Has-row, count-at, lot-at, row-at, row-size, tables-at, house-words}
 use Rattle.ledger.specs.Words.{row-part, bids-at, with-row, writable}
-use Rattle.ledger.specs.Houses.{limits-in, limits-of, house-in, is-house, Sound, with-now, with-lot}
+use Rattle.ledger.specs.Houses.{limits-in, limits-of, house-in, Sound, with-now, with-lot}
 use Rattle.ledger.specs.Opening.{opened}
 
 -- WHAT WAS OPENED IS THE NEW HOUSE, with its limits, sound, and all behind it as it was

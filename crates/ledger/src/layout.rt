@@ -6,16 +6,23 @@ ghost use Rattle.ledger.specs.Layout.{Good, Has-row, good, house-words, lot-at
 
 // The header's words: the limits, the time, and how many lots are open so far; three are spare.
 pub const LOTS: usize = 0;
+
 pub const BIDDERS: usize = 1;
+
 pub const EACH: usize = 2;
+
 pub const NOW: usize = 3;
+
 pub const COUNT: usize = 4;
 // How many words the header has, a lot, and a bid.
 const HEADER: usize = 8;
+
 const LOT: usize = 8;
+
 const BID: usize = 2;
 // What the tables take for each bidder, and for all together beside the header.
 const TABLE: usize = 131072;
+
 const TABLES: usize = 524280;
 // No house has fewer words: one bidder, and no lots.
 pub const FEWEST: usize = HEADER + TABLE + TABLES;
@@ -75,7 +82,8 @@ impl Limits {
         ensures place { λ r. ⌜ r ≡ row-at self lot bidder ⌝ }
         ensures within { λ r. ⌜ r + row-size self ≤ house-words self ⌝ }
     {
-        self.rows_at() + BID * ((lot as usize * self.bidders as usize + bidder as usize) * self.each as usize)
+        self.rows_at()
+            + BID * ((lot as usize * self.bidders as usize + bidder as usize) * self.each as usize)
     }
 
     // How many words a row has.

@@ -1,5 +1,5 @@
 // Lots, by value: read from their words, and one more at the next place.
-ghost use Prim.Native.Nat.{_+_, _≤_, _<_};
+ghost use Prim.Native.Nat.{_+_, _<_};
 ghost use mathlib.Core.Path.{_≡_};
 ghost use lib.ListN.{length};
 ghost use Rattle.ledger.specs.Houses.{lot-words, with-lot};
