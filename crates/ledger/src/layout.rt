@@ -14,16 +14,19 @@ pub const EACH: usize = 2;
 pub const NOW: usize = 3;
 
 pub const COUNT: usize = 4;
+
 // How many words the header has, a lot, and a bid.
 const HEADER: usize = 8;
 
 const LOT: usize = 8;
 
 const BID: usize = 2;
+
 // What the tables take for each bidder, and for all together beside the header.
 const TABLE: usize = 131072;
 
 const TABLES: usize = 524280;
+
 // No house has fewer words: one bidder, and no lots.
 pub const FEWEST: usize = HEADER + TABLE + TABLES;
 
