@@ -9,7 +9,7 @@ use Rattle.std.proofs.shelf.Tests.{cases-lt, cases-order}
 use Rattle.auction.specs.Bids.{Bids}
 use Rattle.ledger.specs.declared.layout.Limits.{Limits}
 use Rattle.ledger.specs.Layout.{Has-row, count-at, row-at, row-size, house-words}
-use Rattle.ledger.specs.Words.{with-row, row-words}
+use Rattle.ledger.specs.Words.{with-row, row-over, row-words}
 use Rattle.ledger.specs.Houses.{house-in}
 use Rattle.ledger.specs.Laws.{Opened-is-new, Words-promised, In-row, No-word-twice, Row-written, Rows-come-back, Bids-land, Lots-land, Time-lands}
 use Rattle.ledger.proofs.Parts.{over-over}
@@ -47,7 +47,7 @@ no-word-twice = λ l i.
     }
 
 row-written : (l : Limits) (m : List ℕ) (k b : ℕ) (bs : Bids) → Has-row l k b → house-words l ≤ length m → length bs ≤ l .each → Row-written l m k b bs (with-row l m k b bs)
-unfolding with-row
+unfolding row-over
 row-written l m k b bs r room few =
     record {
       len = length-with-row l m k b bs (r .lot) (r .bidder) room few;

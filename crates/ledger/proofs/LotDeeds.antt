@@ -81,7 +81,6 @@ module _ (m : List ℕ) (n p t : ℕ) (s : Sound m) (here : getD m count-at 0 �
 
   -- nor is anything in the new lot's rows yet
   none-yet : (b : ℕ) → b < getD m 1 0 → bids-at (limits-in m) m n b ≡ []
-  unfolding bids-at
   none-yet b h =
       let l = limits-in m in
       let within = row-within l n b more h in
@@ -92,7 +91,6 @@ module _ (m : List ℕ) (n p t : ℕ) (s : Sound m) (here : getD m count-at 0 �
       (λ i hi. getD-take (row-size l) (drop (row-at l n b) m) i 0 (omega arith) ∙ getD-drop (row-at l n b) m i 0 ∙ zero-rest (row-at l n b + i) (omega arith) (omega arith))
 
   new-lot : lot-in (limits-in m) (with-lot m n p t) n ≡ record { pieces = p; until = t; made = nobody (getD m 1 0) }
-  unfolding bids-at
   new-lot =
       let l = limits-in m in
       let v : List ℕ = with-lot m n p t in

@@ -11,7 +11,7 @@ use Rattle.auction.specs.Bids.{Bids}
 use Rattle.auction.specs.House.{House, Lot, changed, bids}
 use Rattle.ledger.specs.declared.layout.Limits.{Limits}
 use Rattle.ledger.specs.Layout.{now-at, count-at, lot-at, row-at, row-size, house-words}
-use Rattle.ledger.specs.Words.{bids-in, row-words, row-part, bids-at, with-row, writable}
+use Rattle.ledger.specs.Words.{bids-in, row-words, row-part, bids-at, row-over, with-row, writable}
 use Rattle.ledger.specs.Houses.{limits-in, limits-of, header-in, made-in, lot-in, house-in, is-house, Sound}
 use Rattle.ledger.proofs.Parts.{same-part, length-over, over-below, over-above, over-within, part-over, map-change}
 use Rattle.ledger.proofs.Places.{past, row-number, row-within, row-before, same-number, lot-within}
@@ -28,24 +28,24 @@ module _ (l : Limits) (m : List ℕ) (k b : ℕ) (bs : Bids) (hk : k < l .lots) 
   whole = length-row-words (row-size l) bs (omega arith)
 
   pub length-with-row : length (with-row l m k b bs) ≡ length m
-  unfolding with-row
+  unfolding row-over
   length-with-row = length-over m (row-words (row-size l) bs) (row-at l k b) (row-size l) fits-row whole
 
   -- exactly the row's words are others
   pub with-row-below : (i : ℕ) → i < row-at l k b → getD (with-row l m k b bs) i 0 ≡ getD m i 0
-  unfolding with-row
+  unfolding row-over
   with-row-below = over-below m (row-words (row-size l) bs) (row-at l k b) (row-size l) fits-row whole
 
   pub with-row-above : (i : ℕ) → row-at l k b + row-size l ≤ i → getD (with-row l m k b bs) i 0 ≡ getD m i 0
-  unfolding with-row
+  unfolding row-over
   with-row-above = over-above m (row-words (row-size l) bs) (row-at l k b) (row-size l) fits-row whole
 
   pub with-row-within : (i : ℕ) → row-at l k b ≤ i → i < row-at l k b + row-size l → getD (with-row l m k b bs) i 0 ≡ getD (row-words (row-size l) bs) (i - row-at l k b) 0
-  unfolding with-row
+  unfolding row-over
   with-row-within = over-within m (row-words (row-size l) bs) (row-at l k b) (row-size l) fits-row whole
 
   pub row-there : writable bs ≡ true → bids-at l (with-row l m k b bs) k b ≡ bs
-  unfolding with-row bids-at
+  unfolding row-over
   row-there w = ap bids-in (part-over m (row-words (row-size l) bs) (row-at l k b) (row-size l) fits-row whole) ∙ read-back (row-size l) bs w
 
   pub other-row : (j c : ℕ) → j * l .bidders + c ≢ k * l .bidders + b → row-part l (with-row l m k b bs) j c ≡ row-part l m j c
@@ -63,7 +63,6 @@ module _ (l : Limits) (m : List ℕ) (k b : ℕ) (bs : Bids) (hk : k < l .lots) 
       (λ c hc. other-row j c (λ e. ne (same-number j c k b (l .bidders) hc hb e .0)))
 
   this-lot : writable bs ≡ true → lot-in l (with-row l m k b bs) k ≡ record { pieces = lot-in l m k .pieces; until = lot-in l m k .until; made = set (made-in l m k) b bs }
-  unfolding bids-at
   this-lot w =
       let low = lot-within l k k b hk in
       let pieces : getD (with-row l m k b bs) (lot-at k) 0 ≡ getD m (lot-at k) 0 = with-row-below _ (omega arith) in

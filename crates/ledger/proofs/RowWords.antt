@@ -18,9 +18,7 @@ use Rattle.bundles.proofs.Sets.{bits-mask, mask-below}
 use Rattle.bundles.specs.Masks.{bits, mask-of}
 use Rattle.bundles.specs.Offers.{meant, all-meant}
 use Rattle.bundles.specs.declared.Bid.{Bid as Value}
-use Rattle.ledger.specs.declared.layout.Limits.{Limits}
-use Rattle.ledger.specs.Layout.{row-at, row-size}
-use Rattle.ledger.specs.Words.{bid-of, bids-in, bid-words, row-words, bids-at, with-row, writable}
+use Rattle.ledger.specs.Words.{bid-of, bids-in, bid-words, row-words, row-over, writable}
 
 -- the two words at the front of what is left
 drop-two : (ws : List ℕ) (i : ℕ) → i + 1 < length ws → drop i ws ≡ getD ws i 0 ∷ getD ws (i + 1) 0 ∷ drop (i + 2) ws
@@ -119,20 +117,14 @@ written ws now zeros bids i h h′ room long inv clear =
     ap₂ (λ xs ys. xs ++ (ys ++ drop (length now - n) (drop n now))) front clear ∙ ap₂ (λ k xs. words ++ (replicate k 0 ++ xs)) back none ∙ ap (λ xs. words ++ xs) (append-nil _)
 
 -- a part of the memory is written over
-pub put-row : (l : Limits) (m new : List ℕ) (k b at size : ℕ) (bs : Bids) → at ≡ row-at l k b → size ≡ row-size l → at + size ≤ length m
-    → new ≡ row-words (length (take (at + size - at) (drop at m))) bs → putMid at (at + size - at) m new ≡ with-row l m k b bs
-unfolding with-row
-put-row l m new k b at size bs e s room is =
+pub put-row : (m new : List ℕ) (at size : ℕ) (bs : Bids) → at + size ≤ length m → new ≡ row-words (length (take (at + size - at) (drop at m))) bs
+    → putMid at (at + size - at) m new ≡ row-over m at size bs
+unfolding row-over
+put-row m new at size bs room is =
     let long : at + size - at ≡ size = omega arith in
-    let part : length (take (at + size - at) (drop at m)) ≡ row-size l = length-take-le _ (drop at m) (omega (arith, length-drop at m)) ∙ long ∙ s in
-    let back : drop (at + size - at) (drop at m) ≡ drop (row-at l k b + row-size l) m = drop-drop _ at m ∙ ap (λ j. drop j m) (omega arith) in
-    ap₂ (λ xs ys. xs ++ (ys ++ drop (at + size - at) (drop at m))) (ap (λ j. take j m) e) (is ∙ ap (λ n. row-words n bs) part)
-    ∙ ap (λ xs. take (row-at l k b) m ++ (row-words (row-size l) bs ++ xs)) back
-
-pub part-bids : (l : Limits) (m : List ℕ) (k b at size : ℕ) → at ≡ row-at l k b → size ≡ row-size l → bids-in (take (at + size - at) (drop at m)) ≡ bids-at l m k b
-unfolding bids-at
-part-bids l m k b at size e s =
-    let long : at + size - at ≡ row-size l = omega arith in ap₂ (λ n j. bids-in (take n (drop j m))) long e
+    let part : length (take (at + size - at) (drop at m)) ≡ size = length-take-le (at + size - at) (drop at m) (omega (arith, length-drop at m)) ∙ long in
+    let back : drop (at + size - at) (drop at m) ≡ drop (at + size) m = drop-drop (at + size - at) at m ∙ ap (λ j. drop (at + j) m) long in
+    ap₂ (λ xs ys. take at m ++ (xs ++ ys)) (is ∙ ap (λ n. row-words n bs) part) back
 
 -- words that are all 0 hold no bids
 pub bids-zero : (ws : List ℕ) → ((i : ℕ) → i < length ws → getD ws i 0 ≡ 0) → bids-in ws ≡ []

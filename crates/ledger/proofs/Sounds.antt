@@ -16,7 +16,6 @@ use Rattle.ledger.proofs.Houses.{Fits-facts, house-facts, facts-fit}
 -- a lot is the same where its words and its rows are
 pub same-lot : (l : Limits) (m w : List ℕ) (k : ℕ) → getD w (lot-at k) 0 ≡ getD m (lot-at k) 0 → getD w (lot-at k + 1) 0 ≡ getD m (lot-at k + 1) 0
     → ((b : ℕ) → b < l .bidders → row-part l w k b ≡ row-part l m k b) → lot-in l w k ≡ lot-in l m k
-unfolding bids-at
 same-lot l m w k p t rows =
     let made : made-in l w k ≡ made-in l m k = map-same (bids-at l m k) (bids-at l w k) (l .bidders) (λ b h. ap bids-in (rows b h)) in cc
 

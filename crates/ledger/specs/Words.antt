@@ -37,9 +37,12 @@ writable (b ∷ bs) = (leb 1 (b .price) && ltb (b .price) 4294967296) && (eqb (l
 abbrev pub row-part : Limits → List ℕ → ℕ → ℕ → List ℕ
 row-part l m k b = take (row-size l) (drop (row-at l k b) m)
 
-unfoldable pub bids-at : Limits → List ℕ → ℕ → ℕ → Bids
+abbrev pub bids-at : Limits → List ℕ → ℕ → ℕ → Bids
 bids-at l m k b = bids-in (row-part l m k b)
 
--- the memory with these bids in that row, and all other words as they were
-unfoldable pub with-row : Limits → List ℕ → ℕ → ℕ → Bids → List ℕ
-with-row l m k b bs = take (row-at l k b) m ++ (row-words (row-size l) bs ++ drop (row-at l k b + row-size l) m)
+-- the memory with these bids in the n words from a place on, and all other words as they were; and so for the row of a bidder on a lot
+unfoldable pub row-over : List ℕ → ℕ → ℕ → Bids → List ℕ
+row-over m at n bs = take at m ++ (row-words n bs ++ drop (at + n) m)
+
+abbrev pub with-row : Limits → List ℕ → ℕ → ℕ → Bids → List ℕ
+with-row l m k b bs = row-over m (row-at l k b) (row-size l) bs

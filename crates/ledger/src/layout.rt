@@ -1,6 +1,5 @@
 // Where in the lent memory each thing stands: computed here, and nowhere else, from the limits alone.
 // 8 words of header, 8 words a lot, then the rows of bids by lot and bidder, 2 words a bid, and the rest tables for the solver.
-ghost use Prim.Native.Nat.{_+_, _≤_};
 ghost use mathlib.Core.Path.{_≡_};
 ghost use Rattle.ledger.specs.Layout.{Good, Has-row, good, house-words, lot-at, needed, row-at, row-size, tables-at};
 
@@ -82,8 +81,7 @@ impl Limits {
     // Where the row of a bidder's bids on a lot begins.
     pub fn row_at(self, lot: u32, bidder: u32) -> usize
         requires { ⌜ Has-row self lot bidder ⌝ }
-        ensures place { λ r. ⌜ r ≡ row-at self lot bidder ⌝ }
-        ensures within { λ r. ⌜ r + row-size self ≤ house-words self ⌝ }
+        ensures { λ r. ⌜ r ≡ row-at self lot bidder ⌝ }
     {
         self.rows_at()
             + BID * ((lot as usize * self.bidders as usize + bidder as usize) * self.each as usize)

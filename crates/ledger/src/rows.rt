@@ -6,7 +6,7 @@ ghost use Rattle.bundles.specs.Masks.{mask-of};
 ghost use Rattle.bundles.specs.Offers.{all-meant, meant};
 ghost use Rattle.bundles.specs.Rows.{held};
 ghost use Rattle.ledger.specs.Layout.{Has-row, house-words};
-ghost use Rattle.ledger.specs.Words.{bid-of, bids-at, bids-in, row-words, with-row};
+ghost use Rattle.ledger.specs.Words.{bid-of, bids-at, bids-in, row-over, row-words, with-row};
 use crate::layout::Limits;
 use bundles::Bid;
 use bundles::Bundle;
@@ -28,12 +28,20 @@ pub fn replace_bids(memory: &mut [u32], limits: Limits, lot: u32, bidder: u32, b
     ensures { λ _. ⌜ now (memory .exit) ≡ with-row limits (now (memory .entry)) lot bidder (all-meant (now (bids .entry))) ⌝ }
 {
     let from = limits.row_at(lot, bidder);
-    let to = from + limits.row_size();
+    write_part(memory, from, limits.row_size(), bids);
+}
+
+// Makes these the bids of so many words from a place on.
+fn write_part(memory: &mut [u32], from: usize, size: usize, bids: &[Bid])
+    requires { ⌜ from + size ≤ length (now memory) ⌝ ∗ ⌜ 2 * length (now bids) ≤ size ⌝ }
+    ensures { λ _. ⌜ now (memory .exit) ≡ row-over (now (memory .entry)) from size (all-meant (now (bids .entry))) ⌝ }
+{
+    let to = from + size;
     write_row(&mut memory[from..to], bids);
 }
 
 // The bids that a row of words holds, up to the first price of 0.
-pub fn read_row(words: &[u32]) -> Row
+fn read_row(words: &[u32]) -> Row
     requires { ⌜ length (now words) ≤ 32 ⌝ }
     ensures { λ r. ⌜ all-meant (held r) ≡ bids-in (now (words .entry)) ⌝ }
 {
@@ -48,7 +56,7 @@ pub fn read_row(words: &[u32]) -> Row
 }
 
 // Makes these the bids of a row of words, and clears the words behind the last.
-pub fn write_row(words: &mut [u32], bids: &[Bid])
+fn write_row(words: &mut [u32], bids: &[Bid])
     requires { ⌜ 2 * length (now bids) ≤ length (now words) ⌝ }
     ensures { λ _. ⌜ now (words .exit) ≡ row-words (length (now (words .entry))) (all-meant (now (bids .entry))) ⌝ }
 {

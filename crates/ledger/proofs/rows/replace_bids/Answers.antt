@@ -1,8 +1,8 @@
 use native.Mathlib.Omega.{arith}
-use Rattle.ledger.proofs.RowWords.{put-row}
+use Rattle.ledger.proofs.Places.{row-within}
 use Rattle.ledger.proofs.rows.replace_bids.Needs as need
 
-pub returns : need.returns
-returns c =
-    put-row (c .args .limits) (c .args .memory .now) _ (c .args .lot) (c .args .bidder) (c .row-at-from .result) (c .row-size .result) _ (c .row-at-from .ensures .place) (c .row-size .ensures)
-    (omega arith) (c .write-row .ensures)
+pub write-part-requires : need.write-part-requires
+write-part-requires c κs =
+    let row = c .pre .0 in
+    let within = row-within (c .args .limits) (c .args .lot) (c .args .bidder) (row .lot) (row .bidder) in (omega arith, omega arith)
