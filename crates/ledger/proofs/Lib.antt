@@ -1,0 +1,10 @@
+pub mod Parts
+pub mod Places
+pub mod RowWords
+pub mod Houses
+pub mod Sounds
+pub mod RowDeeds
+pub mod TimeDeeds
+pub mod LotDeeds
+pub mod Opened
+pub mod LedgerLaws

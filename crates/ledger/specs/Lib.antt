@@ -1,0 +1,5 @@
+pub mod Layout
+pub mod Words
+pub mod Houses
+pub mod Opening
+pub mod Laws
