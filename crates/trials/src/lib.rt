@@ -4,4 +4,6 @@ mod answers;
 #[cfg(test)]
 mod calls;
 #[cfg(test)]
+mod lines;
+#[cfg(test)]
 mod sets;
