@@ -1,4 +1,6 @@
 // The program `house`: answers each call of a file, or of standard input, with a line.
+use ledger::Limits;
+use memory::opened;
 use options::Fault;
 use options::HELP;
 use options::Wish;
@@ -9,6 +11,7 @@ use std::error::AnyError;
 use std::fs::File;
 use std::io;
 
+mod memory;
 mod options;
 mod serving;
 
@@ -23,22 +26,28 @@ fn main(rt: LibcRuntime) -> Result<(), AnyError> {
             rt.print(HELP)?;
             Ok(())
         }
-        Ok(
-            Wish::Serve {
-                limits: _,
-                file: None,
-            },
-        ) => told(&rt, "standard input", serve(&rt, rt.stdin())),
-        Ok(
-            Wish::Serve {
-                limits: _,
-                file: Some(at),
-            },
-        ) => serve_file(&rt, word(words.as_slice(), at)),
+        Ok(Wish::Serve { limits, file }) => run(&rt, limits, words.as_slice(), file),
         Err(fault) => {
             complain(&rt, words.as_slice(), fault)?;
             Err("bad options".into())
         }
+    }
+}
+
+// Opens a house in memory of its own, and answers the calls of the file, or of standard input.
+fn run(
+    rt: &LibcRuntime,
+    limits: Limits,
+    words: &[String],
+    file: Option<usize>,
+) -> Result<(), AnyError> {
+    let Ok(_memory) = opened(rt.alloc(), limits) else {
+        eprintln!(rt, "house: no memory for a house with these limits")?;
+        return Err("no memory".into());
+    };
+    match file {
+        None => told(rt, "standard input", serve(rt, rt.stdin())),
+        Some(at) => serve_file(rt, word(words, at)),
     }
 }
 

@@ -3,6 +3,7 @@ ghost use Prim.Native.Nat.{_≤_};
 ghost use lib.ListN.{length};
 ghost use Rattle.std.specs.Vec.{made};
 ghost use Rattle.house.specs.Wishes.{Sane};
+use ledger::Limits;
 
 pub const HELP: &str = "usage: house [--lots N] [--bidders N] [--each N] [FILE]
 
@@ -30,14 +31,6 @@ Answers:
   2 A B                    two numbers
   3 N: 01 130, 0 60        N bids
 ";
-
-// What the house is opened with.
-#[derive(Clone, Copy)]
-pub struct Limits {
-    pub lots: u32,
-    pub bidders: u32,
-    pub each: u32,
-}
 
 // What is asked for: the help, or a house with limits and, by its place among the words, a file.
 #[derive(Clone, Copy)]
