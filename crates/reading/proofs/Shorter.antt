@@ -1,16 +1,14 @@
 -- What is left of a line is no longer than the line. Assumes nothing.
-use mathlib.Core.Path.{_≡_, refl, sym, ap, subst, _∙_}
-use mathlib.Core.Bool.{Bool, true, false, not, _&&_}
+use mathlib.Core.Path.{_≡_, sym, subst}
+use mathlib.Core.Bool.{Bool, true, false, _&&_}
 use mathlib.Core.List.{List, [], _∷_}
-use Prim.Native.Nat.{ℕ, zero, suc, _+_, _*_, _^_, _≤_}
+use Prim.Native.Nat.{ℕ, zero, suc, _≤_}
 use native.Mathlib.Omega.{arith}
-use lib.Bits.{bitAnd, bitOr}
 use lib.Dec.{eqb, ltb}
 use lib.ListN.{drop, length, length-drop}
 use Rattle.std.specs.declared.option.Option.{Option}
 use Rattle.std.specs.declared.option.Option.the-variants.{Some, None}
 use Rattle.auction.specs.Bids.{pick}
-use Rattle.auction.specs.House.{Call}
 use Rattle.reading.specs.Calls.{behind, call, front, kind, likely, second, single, words}
 use Rattle.reading.specs.Lines.{bid, bid-list, blank, byte, comma, digit, end, field, gap, given, grown, larger, longer, next, piece, set-of, several, skip, some-of, spelt, starts}
 use Rattle.reading.specs.Reads.{Read, got, stuck, then}

@@ -1,17 +1,12 @@
 -- One byte more of a line: what is left of it gives what was to be read. Assumes nothing.
 use mathlib.Core.Path.{_≡_, refl, sym, ap, _∙_}
-use mathlib.Core.Bool.{Bool, true, false}
+use mathlib.Core.Bool.{true, false}
 use mathlib.Core.List.{List, [], _∷_}
-use Prim.Native.Nat.{ℕ, zero, suc, _+_, _*_, _^_, _<_, _≤_}
-use native.Mathlib.Omega.{arith}
-use lib.Bits.{bitAnd, bitOr}
-use lib.Dec.{eqb, ltb}
+use Prim.Native.Nat.{ℕ, _+_, _<_, _≤_}
 use lib.ListN.{drop, getD, length}
 use Rattle.std.specs.declared.option.Option.{Option}
 use Rattle.std.specs.declared.option.Option.the-variants.{Some, None}
 use Rattle.std.proofs.shelf.Lists.{at-drop-more, at-drop-all}
-use Rattle.std.proofs.shelf.Tests.{eq-eqb, false≢true, ne-eqb, lt-ltb, le-ltb, true≢false}
-use Rattle.auction.specs.Bids.{pick}
 use Rattle.bundles.proofs.Picks.{pick-yes, pick-no}
 use Rattle.reading.specs.Lines.{blank, byte, given, grown, next, skip, spelt, starts}
 use Rattle.reading.specs.Reads.{Read, got, stuck, then}
