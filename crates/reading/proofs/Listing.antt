@@ -1,13 +1,13 @@
 -- Bids read one after the other, and written into bytes as they come. Assumes nothing.
-use mathlib.Core.Path.{_≡_, refl, sym, ap, ap₂, subst, _∙_}
-use mathlib.Core.Bool.{Bool, true, false, not, _&&_}
+use mathlib.Core.Path.{_≡_, refl, sym, ap, ap₂, _∙_}
+use mathlib.Core.Bool.{Bool, true, false, _&&_}
 use mathlib.Core.List.{List, [], _∷_, _++_}
-use Prim.Native.Nat.{ℕ, zero, suc, _+_, _-_, _*_, _/_, _<_, _≤_, min}
+use Prim.Native.Nat.{ℕ, suc, _+_, _-_, _*_, _/_, _<_, _≤_, min}
 use borrow.Rule.Slice.PartMut.{midOf}
 use native.Mathlib.Omega.{arith}
 use lib.Dec.{ltb}
 use lib.ListN.{drop, length, take}
-use Rattle.std.proofs.shelf.Lists.{append-assoc, append-nil, drop-at, length-take-le, take-at}
+use Rattle.std.proofs.shelf.Lists.{append-assoc, drop-at, length-take-le, take-at}
 use Rattle.std.specs.declared.option.Option.the-variants.{Some, None}
 use Rattle.std.proofs.shelf.Tests.{and-from, and-parts, lt-ltb, ltb-true}
 use Rattle.std.proofs.shelf.Ways.{tells}

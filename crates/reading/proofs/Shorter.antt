@@ -1,18 +1,16 @@
 -- What is left of a line is no longer than the line. Assumes nothing.
-use mathlib.Core.Path.{_≡_, refl, sym, ap, subst, _∙_}
-use mathlib.Core.Bool.{Bool, true, false, not, _&&_}
+use mathlib.Core.Path.{_≡_, sym, subst}
+use mathlib.Core.Bool.{Bool, true, false, _&&_}
 use mathlib.Core.List.{List, [], _∷_}
-use Prim.Native.Nat.{ℕ, zero, suc, _+_, _*_, _^_, _≤_}
+use Prim.Native.Nat.{ℕ, zero, suc, _≤_}
 use native.Mathlib.Omega.{arith}
-use lib.Bits.{bitAnd, bitOr}
 use lib.Dec.{eqb, ltb}
 use lib.ListN.{drop, length, length-drop}
 use Rattle.std.specs.declared.option.Option.{Option}
 use Rattle.std.specs.declared.option.Option.the-variants.{Some, None}
 use Rattle.auction.specs.Bids.{pick}
-use Rattle.auction.specs.House.{Call}
 use Rattle.reading.specs.Calls.{behind, call, front, kind, likely, second, single, words}
-use Rattle.reading.specs.Lines.{bid, bid-list, blank, byte, comma, digit, digit-at, digits, end, field, gap, given, next, number, piece, piece-at, pieces, set-of, several, skip, spelt, starts}
+use Rattle.reading.specs.Lines.{bid, bid-list, blank, byte, comma, digit, end, field, gap, given, grown, larger, longer, next, piece, set-of, several, skip, some-of, spelt, starts}
 use Rattle.reading.specs.Reads.{Read, got, stuck, then}
 use Rattle.reading.specs.declared.kinds.Kind.{Kind}
 use Rattle.reading.specs.declared.kinds.Kind.the-variants.{Open, Bid, Ticks, MyBids, Result, Brings, Lot}
@@ -55,24 +53,21 @@ unfolding spelt
 spelt-within n [] x bs h = h
 spelt-within n (w ∷ ws) x bs h = then-within n (byte w bs) _ (byte-within n w bs h) (λ _ left k. spelt-within n ws x left k)
 
-digits-within : (n m : ℕ) (bs : List ℕ) → length bs ≤ n → Within n (digits m bs)
-unfolding digits
-digits-within n m [] h = h
-digits-within n m (b ∷ bs) h =
-    given-within n (digit b) _ _ h (λ d. pick-within n (ltb (10 * m + d) 4294967296) _ _ (digits-within n (10 * m + d) bs (omega arith)) h)
+grown-within : (sort : ℕ → Option ℕ) (more : ℕ → ℕ → Option ℕ) (n m : ℕ) (bs : List ℕ) → length bs ≤ n → Within n (grown sort more m bs)
+unfolding grown
+grown-within sort more n m [] h = h
+grown-within sort more n m (b ∷ bs) h =
+    given-within n (sort b) _ _ h (λ d. given-within n (more m d) _ _ h (λ k. grown-within sort more n k bs (omega arith)))
 
-pieces-within : (n m : ℕ) (bs : List ℕ) → length bs ≤ n → Within n (pieces m bs)
-unfolding pieces
-pieces-within n m [] h = h
-pieces-within n m (b ∷ bs) h =
-    given-within n (piece b) _ _ h (λ p. pick-within n (eqb (bitAnd m (2 ^ p)) 0) _ _ (pieces-within n (bitOr m (2 ^ p)) bs (omega arith)) h)
+some-within : (sort : ℕ → Option ℕ) (more : ℕ → ℕ → Option ℕ) (n : ℕ) (bs : List ℕ) → length bs ≤ n → Within n (some-of sort more bs)
+some-within sort more n bs h = given-within n (given (next bs) None sort) _ _ h (λ _. grown-within sort more n 0 bs h)
 
 field-within : (n : ℕ) (bs : List ℕ) → length bs ≤ n → Within n (field bs)
-field-within n bs h = then-within n (gap bs) _ (gap-within n bs h) (λ _ left k. given-within n (digit-at left) _ _ k (λ _. digits-within n 0 left k))
+field-within n bs h = then-within n (gap bs) _ (gap-within n bs h) (λ _ left k. some-within digit longer n left k)
 
 bid-within : (n : ℕ) (bs : List ℕ) → length bs ≤ n → Within n (bid bs)
 bid-within n bs h =
-    then-within n (set-of bs) _ (given-within n (piece-at bs) _ _ h (λ _. pieces-within n 0 bs h)) (λ m left k. then-within n (field left) _ (field-within n left k) (λ p more l. l))
+    then-within n (set-of bs) _ (some-within piece larger n bs h) (λ m left k. then-within n (field left) _ (field-within n left k) (λ p more l. l))
 
 several-within : (n m : ℕ) (bs : List ℕ) → length bs ≤ n → Within n (several m bs)
 unfolding several

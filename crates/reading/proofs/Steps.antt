@@ -1,19 +1,14 @@
 -- One byte more of a line: what is left of it gives what was to be read. Assumes nothing.
 use mathlib.Core.Path.{_≡_, refl, sym, ap, _∙_}
-use mathlib.Core.Bool.{Bool, true, false}
+use mathlib.Core.Bool.{true, false}
 use mathlib.Core.List.{List, [], _∷_}
-use Prim.Native.Nat.{ℕ, zero, suc, _+_, _*_, _^_, _<_, _≤_}
-use native.Mathlib.Omega.{arith}
-use lib.Bits.{bitAnd, bitOr}
-use lib.Dec.{eqb, ltb}
+use Prim.Native.Nat.{ℕ, _+_, _<_, _≤_}
 use lib.ListN.{drop, getD, length}
 use Rattle.std.specs.declared.option.Option.{Option}
 use Rattle.std.specs.declared.option.Option.the-variants.{Some, None}
 use Rattle.std.proofs.shelf.Lists.{at-drop-more, at-drop-all}
-use Rattle.std.proofs.shelf.Tests.{eq-eqb, false≢true, ne-eqb, lt-ltb, le-ltb, true≢false}
-use Rattle.auction.specs.Bids.{pick}
 use Rattle.bundles.proofs.Picks.{pick-yes, pick-no}
-use Rattle.reading.specs.Lines.{blank, byte, digit-at, digits, given, next, piece-at, pieces, skip, spelt, starts}
+use Rattle.reading.specs.Lines.{blank, byte, given, grown, next, skip, spelt, starts}
 use Rattle.reading.specs.Reads.{Read, got, stuck, then}
 
 pub skip-more : (bs : List ℕ) → true ≡ starts blank bs → skip (drop 1 bs) ≡ skip bs
@@ -40,42 +35,30 @@ module _ {X : Type 0} (ws : List ℕ) (i : ℕ) (x : X) (bs : List ℕ) where
 pub begun : {A X : Type 0} (o : Option A) (a : A) (x y : X) → Some a ≡ o → y ≡ given o x (λ _. y)
 begun o a x y e = ap (λ p. given p x (λ _. y)) e
 
--- a number: one digit more, one too many, and its end
-module _ (n : ℕ) where
-  abbrev after-digits : List ℕ → List ℕ → Option ℕ → Read ℕ
-  after-digits bs behind o = given o (got n bs) (λ d. pick (ltb (10 * n + d) 4294967296) (digits (10 * n + d) behind) (stuck bs))
+-- a number or a set: one byte more, one that makes it too much, and its end
+module _ (sort : ℕ → Option ℕ) (more : ℕ → ℕ → Option ℕ) (n : ℕ) (bs : List ℕ) where
+  abbrev sort-at : Option ℕ
+  sort-at = given (next bs) None sort
 
-  digits-by : (bs : List ℕ) → digits n bs ≡ after-digits bs (drop 1 bs) (digit-at bs)
-  unfolding digits
-  digits-by [] = refl
-  digits-by (b ∷ bs) = refl
+  abbrev grown-with : ℕ → Option ℕ → Read ℕ
+  grown-with d o = given o (stuck bs) (λ m. grown sort more m (drop 1 bs))
 
-  pub digits-more : (d k : ℕ) (bs : List ℕ) → Some d ≡ digit-at bs → k ≡ 10 * n + d → k < 4294967296 → digits k (drop 1 bs) ≡ digits n bs
-  digits-more d k bs e is h =
-      sym (digits-by bs ∙ ap (after-digits bs (drop 1 bs)) (sym e) ∙ pick-yes _ _ (lt-ltb (10 * n + d) 4294967296 (omega arith)) ∙ ap (λ m. digits m (drop 1 bs)) (sym is))
+  abbrev grown-by : Option ℕ → Read ℕ
+  grown-by o = given o (got n bs) (λ d. grown-with d (more n d))
 
-  pub digits-over : (d k : ℕ) (bs : List ℕ) → Some d ≡ digit-at bs → k ≡ 10 * n + d → 4294967296 ≤ k → stuck bs ≡ digits n bs
-  digits-over d k bs e is h = sym (digits-by bs ∙ ap (after-digits bs (drop 1 bs)) (sym e) ∙ pick-no _ _ (le-ltb (10 * n + d) 4294967296 (omega arith)))
+  unrolled : grown sort more n bs ≡ grown-by sort-at
+  unfolding grown
+  unrolled = go bs
+    where
+      go : (l : List ℕ) → grown sort more n l ≡ given (given (next l) None sort) (got n l) (λ d. given (more n d) (stuck l) (λ m. grown sort more m (drop 1 l)))
+      go [] = refl
+      go (b ∷ l) = refl
 
-  pub digits-done : (bs : List ℕ) → None ≡ digit-at bs → got n bs ≡ digits n bs
-  digits-done bs e = sym (digits-by bs ∙ ap (after-digits bs (drop 1 bs)) (sym e))
+  pub grown-more : (d k : ℕ) → Some d ≡ sort-at → Some k ≡ more n d → grown sort more k (drop 1 bs) ≡ grown sort more n bs
+  grown-more d k e is = ap (grown-with d) is ∙ ap grown-by e ∙ sym unrolled
 
--- a set: one piece more, one that it has already, and its end
-module _ (m : ℕ) where
-  abbrev after-pieces : List ℕ → List ℕ → Option ℕ → Read ℕ
-  after-pieces bs behind o = given o (got m bs) (λ p. pick (eqb (bitAnd m (2 ^ p)) 0) (pieces (bitOr m (2 ^ p)) behind) (stuck bs))
+  pub grown-stuck : (d : ℕ) → Some d ≡ sort-at → None ≡ more n d → stuck bs ≡ grown sort more n bs
+  grown-stuck d e is = ap (grown-with d) is ∙ ap grown-by e ∙ sym unrolled
 
-  pieces-by : (bs : List ℕ) → pieces m bs ≡ after-pieces bs (drop 1 bs) (piece-at bs)
-  unfolding pieces
-  pieces-by [] = refl
-  pieces-by (b ∷ bs) = refl
-
-  pub pieces-more : (p k : ℕ) (bs : List ℕ) → Some p ≡ piece-at bs → k ≡ 2 ^ p → bitAnd m k ≡ 0 → pieces (bitOr m k) (drop 1 bs) ≡ pieces m bs
-  pieces-more p k bs e is h =
-      sym (pieces-by bs ∙ ap (after-pieces bs (drop 1 bs)) (sym e) ∙ pick-yes _ _ (eq-eqb _ _ (ap (bitAnd m) (sym is) ∙ h)) ∙ ap (λ b. pieces (bitOr m b) (drop 1 bs)) (sym is))
-
-  pub pieces-twice : (p k : ℕ) (bs : List ℕ) → Some p ≡ piece-at bs → k ≡ 2 ^ p → (bitAnd m k ≡ 0 → ⊥) → stuck bs ≡ pieces m bs
-  pieces-twice p k bs e is h = sym (pieces-by bs ∙ ap (after-pieces bs (drop 1 bs)) (sym e) ∙ pick-no _ _ (ne-eqb _ _ (λ z. h (ap (bitAnd m) is ∙ z))))
-
-  pub pieces-done : (bs : List ℕ) → None ≡ piece-at bs → got m bs ≡ pieces m bs
-  pieces-done bs e = sym (pieces-by bs ∙ ap (after-pieces bs (drop 1 bs)) (sym e))
+  pub grown-done : None ≡ sort-at → got n bs ≡ grown sort more n bs
+  grown-done e = ap grown-by e ∙ sym unrolled

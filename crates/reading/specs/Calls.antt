@@ -1,6 +1,6 @@
 -- What a line means: which call it is, or the place of the first byte that does not fit. Assumes nothing: these are definitions.
 use mathlib.Core.Bool.{Bool, true, false}
-use mathlib.Core.List.{List, [], _∷_}
+use mathlib.Core.List.{List, []}
 use Prim.Native.Nat.{ℕ, _-_}
 use lib.Chars.{codes}
 use lib.Dec.{eqb}
@@ -42,7 +42,7 @@ likely bs =
 abbrev pub kind : List ℕ → Read Kind
 kind bs = given (likely bs) (stuck bs) (λ k. spelt (words k) k bs)
 
--- the second number of a call, where it has two
+-- has it one number only?
 abbrev pub single : Kind → Bool
 single Open = false
 single Bid = false
@@ -52,6 +52,7 @@ single Result = false
 single Brings = true
 single Lot = true
 
+-- the second number of a call, where it has two
 abbrev pub second : Kind → List ℕ → Read ℕ
 second k bs = pick (single k) (got 0 bs) (field bs)
 

@@ -1,5 +1,5 @@
 -- The parts of a call's line: blanks, words, numbers, sets of pieces and bids. Assumes nothing: these are definitions.
-use mathlib.Core.Bool.{Bool, true, false, not, _&&_, _||_}
+use mathlib.Core.Bool.{Bool, true, false, _&&_, _||_}
 use mathlib.Core.List.{List, [], _∷_}
 use Prim.Native.Nat.{ℕ, zero, suc, _+_, _*_, _-_, _^_}
 use lib.Bits.{bitAnd, bitOr}
@@ -50,37 +50,34 @@ spelt (w ∷ ws) x bs = then (byte w bs) (λ _ left. spelt ws x left)
 abbrev pub end : List ℕ → Read (Unit {0})
 end bs = given (next (skip bs)) (got tt (skip bs)) (λ _. stuck (skip bs))
 
--- the digit that a byte is
+-- as long as the bytes are of a sort, each makes more of n; the first that can't does not fit
+unfoldable pub grown : (ℕ → Option ℕ) → (ℕ → ℕ → Option ℕ) → ℕ → List ℕ → Read ℕ
+grown sort more n [] = got n []
+grown sort more n (b ∷ bs) = given (sort b) (got n (b ∷ bs)) (λ d. given (more n d) (stuck (b ∷ bs)) (λ m. grown sort more m bs))
+
+-- one byte of the sort or more
+abbrev pub some-of : (ℕ → Option ℕ) → (ℕ → ℕ → Option ℕ) → List ℕ → Read ℕ
+some-of sort more bs = given (given (next bs) None sort) (stuck bs) (λ _. grown sort more 0 bs)
+
+-- a number in decimal digits, below 2 ^ 32
 abbrev pub digit : ℕ → Option ℕ
 digit b = pick (leb 48 b && leb b 57) (Some (b - 48)) None
 
-abbrev pub digit-at : List ℕ → Option ℕ
-digit-at bs = given (next bs) None digit
+abbrev pub longer : ℕ → ℕ → Option ℕ
+longer n d = pick (ltb (10 * n + d) 4294967296) (Some (10 * n + d)) None
 
--- the digits of a number that begins with those of n, as long as it is below 2 ^ 32
-unfoldable pub digits : ℕ → List ℕ → Read ℕ
-digits n [] = got n []
-digits n (b ∷ bs) = given (digit b) (got n (b ∷ bs)) (λ d. pick (ltb (10 * n + d) 4294967296) (digits (10 * n + d) bs) (stuck (b ∷ bs)))
-
--- one digit or more
 abbrev pub number : List ℕ → Read ℕ
-number bs = given (digit-at bs) (stuck bs) (λ _. digits 0 bs)
+number bs = some-of digit longer bs
 
--- the piece that a byte is
+-- a set of pieces, none twice, as the bits of a number
 abbrev pub piece : ℕ → Option ℕ
 piece b = pick (leb 48 b && leb b 57) (Some (b - 48)) (pick (leb 97 b && leb b 102) (Some (b - 87)) None)
 
-abbrev pub piece-at : List ℕ → Option ℕ
-piece-at bs = given (next bs) None piece
+abbrev pub larger : ℕ → ℕ → Option ℕ
+larger m p = pick (eqb (bitAnd m (2 ^ p)) 0) (Some (bitOr m (2 ^ p))) None
 
--- the pieces of a set that has those of m, the bits of a number, none twice
-unfoldable pub pieces : ℕ → List ℕ → Read ℕ
-pieces m [] = got m []
-pieces m (b ∷ bs) = given (piece b) (got m (b ∷ bs)) (λ p. pick (eqb (bitAnd m (2 ^ p)) 0) (pieces (bitOr m (2 ^ p)) bs) (stuck (b ∷ bs)))
-
--- one piece or more
 abbrev pub set-of : List ℕ → Read ℕ
-set-of bs = given (piece-at bs) (stuck bs) (λ _. pieces 0 bs)
+set-of bs = some-of piece larger bs
 
 abbrev pub field : List ℕ → Read ℕ
 field bs = then (gap bs) (λ _ left. number left)

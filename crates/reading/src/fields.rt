@@ -1,12 +1,13 @@
 // The parts of a call's line behind its first words: numbers, sets and bids.
-ghost use Prim.Native.Nat.{_^_, _<_, _≤_};
+ghost use Prim.Native.Nat.{_<_, _≤_};
 ghost use mathlib.Core.Bool.{_&&_};
 ghost use mathlib.Core.Path.{_≡_};
 ghost use lib.ListN.{drop};
 ghost use Rattle.std.specs.Vec.{made};
+ghost use Rattle.std.specs.declared.option.Option.the-variants.{None};
 ghost use Rattle.auction.specs.Bids.{pick};
 ghost use Rattle.bundles.specs.Offers.{meant};
-ghost use Rattle.reading.specs.Lines.{bid, bid-list, comma, digit-at, field, number, piece-at, set-of, skip};
+ghost use Rattle.reading.specs.Lines.{bid, bid-list, comma, digit as digit-of, field, given, larger as larger-by, longer as longer-by, next, number as number-in, piece as piece-of, set-of, skip};
 ghost use Rattle.reading.specs.Readers.{ahead, listed, seen, seen-as};
 use crate::reader::Reader;
 use crate::reader::Unreadable;
@@ -75,27 +76,26 @@ impl<'a> Reader<'a> {
         self.number()
     }
 
-    // One digit or more, of a number that fits.
+    // One digit or more.
     fn number(&mut self) -> Result<u32, Unreadable>
-        ensures { λ r. ⌜ seen r (now (self .exit)) ≡ number (ahead (now (self .entry))) ⌝ }
+        ensures { λ r. ⌜ seen r (now (self .exit)) ≡ number-in (ahead (now (self .entry))) ⌝ }
     {
         let Some(_) = self.digit() else {
             return Err(Unreadable);
         };
-        let mut number: u64 = 0;
+        let mut number = 0;
         while let Some(digit) = self.digit() {
-            let longer = 10 * number + u64::from(digit);
-            if longer >= NUMBERS {
+            let Some(more) = longer(number, digit) else {
                 return Err(Unreadable);
-            }
-            number = longer;
+            };
+            number = more;
             self.step();
         }
-        Ok(number as u32)
+        Ok(number)
     }
 
     fn digit(&self) -> Option<u8>
-        ensures { λ r. ⌜ r ≡ digit-at (ahead (now (self .entry))) ⌝ }
+        ensures { λ r. ⌜ r ≡ given (next (ahead (now (self .entry)))) None digit-of ⌝ }
     {
         match self.peek() {
             Some(byte @ b'0'..=b'9') => Some(byte - b'0'),
@@ -103,27 +103,26 @@ impl<'a> Reader<'a> {
         }
     }
 
-    // One piece or more, none twice.
+    // One piece or more.
     fn set(&mut self) -> Result<u16, Unreadable>
         ensures { λ r. ⌜ seen r (now (self .exit)) ≡ set-of (ahead (now (self .entry))) ⌝ }
     {
         let Some(_) = self.piece() else {
             return Err(Unreadable);
         };
-        let mut mask: u16 = 0;
+        let mut mask = 0;
         while let Some(piece) = self.piece() {
-            let bit = bit(piece);
-            if mask & bit != 0 {
+            let Some(more) = larger(mask, piece) else {
                 return Err(Unreadable);
-            }
-            mask |= bit;
+            };
+            mask = more;
             self.step();
         }
         Ok(mask)
     }
 
     fn piece(&self) -> Option<u8>
-        ensures { λ r. ⌜ r ≡ piece-at (ahead (now (self .entry))) ⌝ }
+        ensures { λ r. ⌜ r ≡ given (next (ahead (now (self .entry)))) None piece-of ⌝ }
     {
         match self.peek() {
             Some(byte @ b'0'..=b'9') => Some(byte - b'0'),
@@ -133,10 +132,27 @@ impl<'a> Reader<'a> {
     }
 }
 
-// The set of one piece.
-fn bit(piece: u8) -> u16
-    requires { ⌜ piece < 16 ⌝ }
-    ensures { λ r. ⌜ r ≡ 2 ^ piece ⌝ }
+// The number with a digit more, if it is not too large.
+fn longer(number: u32, digit: u8) -> Option<u32>
+    ensures { λ r. ⌜ r ≡ longer-by number digit ⌝ }
 {
-    1 << piece
+    let more = 10 * u64::from(number) + u64::from(digit);
+    if more < NUMBERS {
+        Some(more as u32)
+    } else {
+        None
+    }
+}
+
+// The set with a piece more, if it does not have it yet.
+fn larger(mask: u16, piece: u8) -> Option<u16>
+    requires { ⌜ piece < 16 ⌝ }
+    ensures { λ r. ⌜ r ≡ larger-by mask piece ⌝ }
+{
+    let bit = 1u16 << piece;
+    if mask & bit == 0 {
+        Some(mask | bit)
+    } else {
+        None
+    }
 }

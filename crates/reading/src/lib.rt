@@ -32,6 +32,9 @@ pub fn read_line<'a>(line: &[u8], bids: &'a mut [u8; 1530]) -> Result<Call<'a>, 
     let mut reader = Reader { rest: line };
     match reader.call(bids) {
         Ok(call) => Ok(call),
-        Err(Unreadable) => Err(line.len() - reader.rest.len()),
+        Err(Unreadable) => {
+            let place = line.len() - reader.rest.len();
+            Err(place)
+        }
     }
 }
