@@ -42,8 +42,10 @@ no-word-twice = λ l i.
       lots = λ k j one other. omega arith;
       rows = rows-apart l i;
       lot-row = λ k j c h one other. omega (arith, lot-within l k j c h);
-      header = λ k one low. omega arith;
-      tables = λ k b hk hb one. omega (arith, row-within l k b hk hb);
+      header-lot = λ k low one. omega arith;
+      header-row = λ k b low one. omega arith;
+      lot-tables = λ k h one. omega arith;
+      row-tables = λ k b hk hb one. omega (arith, row-within l k b hk hb);
     }
 
 row-written : (l : Limits) (m : List ℕ) (k b : ℕ) (bs : Bids) → Has-row l k b → house-words l ≤ length m → length bs ≤ l .each → Row-written l m k b bs (with-row l m k b bs)

@@ -12,6 +12,7 @@ use Rattle.ledger.specs.Layout.{Good, house-words}
 use Rattle.ledger.specs.Houses.{house-in, Sound}
 use Rattle.ledger.specs.Laws.{New-house}
 use Rattle.ledger.specs.Opening.{new-words, opened}
+use Rattle.ledger.proofs.Parts.{zeros-below}
 use Rattle.ledger.proofs.Sounds.{sound-by}
 
 zeros : (n : ℕ) → 8 ≤ n → replicate {A = ℕ} n 0 ≡ 0 ∷ 0 ∷ 0 ∷ 0 ∷ 0 ∷ 0 ∷ 0 ∷ 0 ∷ replicate (n - 8) 0
@@ -28,11 +29,6 @@ started l m clear n e room is =
     ap₂ (λ xs k. set (set (set (xs ++ drop k m) 0 (l .lots)) 1 (l .bidders)) 2 (l .each)) front whole
 
 -- a new house has words below 2^32 if what lies behind has
-zeros-below : (k : ℕ) (xs : List ℕ) → ((i : ℕ) → getD xs i 0 < 4294967296) → (i : ℕ) → getD (replicate k 0 ++ xs) i 0 < 4294967296
-zeros-below zero xs below i = below i
-zeros-below (suc k) xs below zero = omega arith
-zeros-below (suc k) xs below (suc i) = zeros-below k xs below i
-
 below-opened : (l : Limits) (m : List ℕ) → Good l → ((i : ℕ) → getD m i 0 < 4294967296) → (i : ℕ) → getD (opened l m) i 0 < 4294967296
 unfolding opened
 below-opened l m g below zero = omega (arith, g .0)

@@ -1,11 +1,11 @@
 -- Lists with a part written over, and lists made by counting with one element changed. Assumes nothing.
 use mathlib.Core.Path.{_≡_, refl, sym, ap, ap₂, _∙_}
-use mathlib.Core.Logic.{_⊎_, ⊎-elim, _≢_}
+use mathlib.Core.Logic.{⊎-elim, _≢_}
 use mathlib.Core.List.{List, _++_, map}
 use Prim.Native.Nat.{ℕ, zero, suc, _+_, _-_, _≤_, _<_}
 use native.Mathlib.Nat.{zero-add}
 use native.Mathlib.Omega.{arith}
-use lib.ListN.{length, getD, take, drop, set}
+use lib.ListN.{length, getD, take, drop, set, replicate}
 use Rattle.std.specs.Iters.{counting}
 use Rattle.std.proofs.shelf.Counted.{length-map-counting, getD-map-counting, fill-by-all}
 use Rattle.std.proofs.shelf.Lists.{same-lists, length-append, length-take, length-take-le, length-drop, length-set, take-at, drop-at, drop-drop, getD-append-left, getD-append-right, getD-take, getD-drop, getD-set-same, getD-set-other, getD-default}
@@ -72,3 +72,9 @@ map-change f g n k x h here there =
     (λ e. ap (λ i. getD (set fs k x) i x) e ∙ getD-set-same fs k x x (omega arith) ∙ sym here ∙ ap g (sym e))
     (λ ne. getD-set-other fs k j x x ne ∙ getD-map-counting f 0 n j j x hj (zero-add j) ∙ sym (there j hj ne))
     (cases-eq j k)))
+
+-- zeros in front of words that fit
+pub zeros-below : (k : ℕ) (xs : List ℕ) → ((i : ℕ) → getD xs i 0 < 4294967296) → (i : ℕ) → getD (replicate k 0 ++ xs) i 0 < 4294967296
+zeros-below zero xs below i = below i
+zeros-below (suc k) xs below zero = omega arith
+zeros-below (suc k) xs below (suc i) = zeros-below k xs below i

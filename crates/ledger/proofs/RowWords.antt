@@ -18,6 +18,7 @@ use Rattle.bundles.proofs.Sets.{bits-mask, mask-below}
 use Rattle.bundles.specs.Masks.{bits, mask-of}
 use Rattle.bundles.specs.Offers.{meant, all-meant}
 use Rattle.bundles.specs.declared.Bid.{Bid as Value}
+use Rattle.ledger.proofs.Parts.{zeros-below}
 use Rattle.ledger.specs.Words.{bid-of, bids-in, bid-words, row-words, row-over, writable}
 
 -- the two words at the front of what is left
@@ -174,23 +175,19 @@ length-row-words n bs h =
     omega (arith, length-append (bid-words bs) (replicate (n - 2 * length bs) 0), length-bid-words bs, length-replicate {A = ℕ} (n - 2 * length bs) 0)
 
 -- and each word fits
-zeros-below : (k i : ℕ) → getD (replicate k 0) i 0 < 4294967296
-zeros-below zero i = omega arith
-zeros-below (suc k) zero = omega arith
-zeros-below (suc k) (suc i) = zeros-below k i
-
-words-below : (bs : Bids) (k : ℕ) → writable bs ≡ true → (i : ℕ) → getD (bid-words bs ++ replicate k 0) i 0 < 4294967296
+words-below : (bs : Bids) (ws : List ℕ) → writable bs ≡ true → ((i : ℕ) → getD ws i 0 < 4294967296) → (i : ℕ) → getD (bid-words bs ++ ws) i 0 < 4294967296
 unfolding bid-words
-words-below [] k w i = zeros-below k i
-words-below (b ∷ bs) k w zero = first b bs w .word
-words-below (b ∷ bs) k w (suc zero) =
+words-below [] ws w below i = below i
+words-below (b ∷ bs) ws w below zero = first b bs w .word
+words-below (b ∷ bs) ws w below (suc zero) =
     let f = first b bs w in
-    let below : mask-of (b .on) < 65536 = subst (λ n. mask-of (b .on) < 2 ^ n) (f .on) (mask-below (b .on)) in omega arith
-words-below (b ∷ bs) k w (suc (suc i)) = words-below bs k (first b bs w .others) i
+    let fits : mask-of (b .on) < 65536 = subst (λ n. mask-of (b .on) < 2 ^ n) (f .on) (mask-below (b .on)) in omega arith
+words-below (b ∷ bs) ws w below (suc (suc i)) = words-below bs ws (first b bs w .others) below i
 
 pub row-below : (n : ℕ) (bs : Bids) → writable bs ≡ true → (i : ℕ) → getD (row-words n bs) i 0 < 4294967296
 unfolding row-words
-row-below n bs w i = words-below bs _ w i
+row-below n bs w =
+    words-below bs _ w (λ i. subst (λ xs. getD xs i 0 < 4294967296) (append-nil (replicate (n - 2 * length bs) 0)) (zeros-below (n - 2 * length bs) [] (λ j. omega arith) i))
 
 -- the bids of a call that is taken are writable
 pub call-writable : (bs : Bids) → prices-fine bs ≡ true → fields-of bs ≡ true → writable bs ≡ true

@@ -21,9 +21,12 @@ limits-in m = record { lots = getD m 0 0; bidders = getD m 1 0; each = getD m 2 
 abbrev pub header-in : List ℕ → Header
 header-in m = record { limits = limits-in m; now = getD m now-at 0; count = getD m count-at 0 }
 
--- the meaning's limits: these, and the calls that a house can do
+-- the meaning's limits, these and the calls that a house can do; and back
 abbrev pub limits-of : (ℕ → Bool) → Limits → All-limits
 limits-of can l = record { calls-can = can; lots = l .lots; bidders = l .bidders; each = l .each }
+
+abbrev pub limits-from : All-limits → Limits
+limits-from l = record { lots = l .lots; bidders = l .bidders; each = l .each }
 
 -- a lot's own words, and the lot with what each bidder has bid on it
 abbrev pub lot-words : List ℕ → ℕ → Lot-words

@@ -38,8 +38,10 @@ pub record Apart (l : Limits) (i : ℕ) : Type 0 where
   pub lots : (k j : ℕ) → In-lot k i → In-lot j i → k ≡ j
   pub rows : (k b j c : ℕ) → b < l .bidders → c < l .bidders → In-row l k b i → In-row l j c i → (k ≡ j) × (b ≡ c)
   pub lot-row : (k j c : ℕ) → k < l .lots → In-lot k i → In-row l j c i → ⊥
-  pub header : (k : ℕ) → In-lot k i → i < 8 → ⊥
-  pub tables : (k b : ℕ) → k < l .lots → b < l .bidders → In-row l k b i → i < tables-at l
+  pub header-lot : (k : ℕ) → i < 8 → In-lot k i → ⊥
+  pub header-row : (k b : ℕ) → i < 8 → In-row l k b i → ⊥
+  pub lot-tables : (k : ℕ) → k < l .lots → In-lot k i → i < tables-at l
+  pub row-tables : (k b : ℕ) → k < l .lots → b < l .bidders → In-row l k b i → i < tables-at l
 
 unfoldable pub No-word-twice : Type 0
 No-word-twice = (l : Limits) (i : ℕ) → Apart l i

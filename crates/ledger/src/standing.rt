@@ -1,5 +1,5 @@
 // The header of the memory: whether a house stands there, with which limits, at what time, and with how many lots.
-ghost use Prim.Native.Nat.{_≤_, _<_};
+ghost use Prim.Native.Nat.{_≤_};
 ghost use mathlib.Core.Bool.{false};
 ghost use mathlib.Core.Path.{_≡_};
 ghost use lib.ListN.{length};
