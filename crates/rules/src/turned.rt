@@ -1,0 +1,30 @@
+// A call that is turned away: why, and at which place of it.
+
+use wire::Refusal;
+
+#[derive(Clone, Copy)]
+pub struct Turned {
+    pub refusal: Refusal,
+    pub place: u64,
+}
+
+// Where the memory is no house, every call is turned away so.
+pub const NO_HOUSE: Turned = Turned {
+    refusal: Refusal::NoHouse,
+    place: 0,
+};
+
+pub const OUT_OF_RANGE: Turned = Turned {
+    refusal: Refusal::OutOfRange,
+    place: 0,
+};
+
+pub const NO_SUCH_LOT: Turned = Turned {
+    refusal: Refusal::NoSuchLot,
+    place: 0,
+};
+
+pub const ABOVE_LIMITS: Turned = Turned {
+    refusal: Refusal::AboveLimits,
+    place: 0,
+};
