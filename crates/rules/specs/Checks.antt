@@ -8,12 +8,13 @@ use Rattle.auction.specs.House.{Call, opens, bids, ticks, my-bids, lot-is, the-
 use Rattle.bundles.specs.Offers.{all-meant}
 use Rattle.bundles.specs.Rows.{held}
 use Rattle.keeper.specs.Keeping.{turned-in, place-in}
-use Rattle.ledger.specs.Houses.{Stands, house-in}
+use Rattle.ledger.specs.Houses.{Stands, house-in, limits-in}
 use Rattle.ledger.specs.Layout.{Has-row, house-words, lot-at, now-at}
 use Rattle.ledger.specs.Words.{bids-at}
 use Rattle.ledger.specs.declared.lots.Lot.{Lot}
 use Rattle.ledger.specs.declared.standing.Header.{Header}
 use Rattle.wire.specs.Refusals.{refusal-number}
+use Rattle.rules.specs.declared.bidding.Taking.{Taking}
 use Rattle.rules.specs.declared.turned.Turned.{Turned}
 
 -- the call is turned away, by this refusal and at this place
@@ -28,6 +29,15 @@ pub record Opens (m : List ℕ) (pieces until : ℕ) (h : Header) : Type 0 where
   pub stands : Stands m h
   pub room : lot-at (h .count) + 1 < length m
   pub few : h .count < 4096
+
+-- a bidder's bids on a lot can be replaced by these, which are the row's
+pub record Takes (m : List ℕ) (k b : ℕ) (bs : Bids) (t : Taking) : Type 0 where
+  pub taken : turned-in m (bids k b bs) ≡ 0
+  pub limits : t .limits ≡ limits-in m
+  pub place : Has-row (t .limits) k b
+  pub room : house-words (t .limits) ≤ length m
+  pub made : all-meant (held (t .row)) ≡ bs
+  pub few : length (held (t .row)) ≤ t .limits .each
 
 -- so many ticks can go by, and then it is this late
 pub record Ticks (m : List ℕ) (n : ℕ) (t : ℕ) : Type 0 where
