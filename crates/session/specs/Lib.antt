@@ -1,1 +1,1 @@
-pub mod Stage
+pub mod Deeds
