@@ -2,20 +2,19 @@
 use mathlib.Core.Path.{_≡_, refl, sym, ap, ap₂, subst, _∙_}
 use mathlib.Core.Bool.{true}
 use mathlib.Core.Logic.{_⊎_, inl, inr}
-use mathlib.Core.List.{List, _++_, map}
+use mathlib.Core.List.{List, _++_}
 use Prim.Native.Nat.{ℕ, _+_, _≤_, _<_}
 use native.Mathlib.Omega.{arith}
 use lib.ListN.{length, getD, take, drop, set}
-use Rattle.std.specs.Iters.{counting}
 use Rattle.std.proofs.shelf.Lists.{append-assoc, length-append, length-drop, length-set, getD-append-left, set-append-left, take-append-le, drop-append-le}
 use Rattle.std.proofs.shelf.Tests.{cases-eq}
 use Rattle.auction.specs.Bids.{Bids}
-use Rattle.auction.specs.House.{Call, opens, bids, ticks, my-bids, result, brings, lot-is, garbled, Answer, House, turned, answer, Limits as All-limits}
+use Rattle.auction.specs.House.{Call, opens, bids, ticks, my-bids, result, brings, lot-is, garbled, House, turned, answer, Limits as All-limits}
 use Rattle.ledger.specs.Layout.{now-at, count-at, lot-at, row-at, row-size, house-words}
 use Rattle.ledger.specs.Words.{row-words, row-part, row-over, with-row}
-use Rattle.ledger.specs.Houses.{limits-in, limits-of, header-in, lot-in, house-in, is-house, with-lot, with-now}
+use Rattle.ledger.specs.Houses.{limits-in, limits-of, header-in, lot-in, house-in, is-house, with-lot}
 use Rattle.ledger.proofs.Parts.{map-same}
-use Rattle.ledger.proofs.Places.{row-within, lot-within}
+use Rattle.ledger.proofs.Places.{row-within}
 use Rattle.ledger.proofs.Houses.{Fits-facts, house-facts, facts-fit, same-limits, same-header, house-by}
 use Rattle.ledger.proofs.Sounds.{same-lot}
 use Rattle.keeper.specs.Keeping.{can-do, limits-now, turned-in, edit, next-in, says-in}

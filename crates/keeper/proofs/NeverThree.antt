@@ -9,7 +9,7 @@ use lib.Dec.{ltb, leb, eqb}
 use lib.ListN.{length}
 use Rattle.std.proofs.shelf.Tests.{eqb-false}
 use Rattle.auction.specs.Bids.{pick, Bids}
-use Rattle.auction.specs.House.{Call, opens, bids, ticks, my-bids, result, brings, lot-is, garbled, Answer, refused, number, two, list, Lot, House, the-lot, all-in, good-call, turned-by, turned, place, told, answer, Limits as All-limits}
+use Rattle.auction.specs.House.{Call, opens, bids, ticks, my-bids, result, brings, lot-is, garbled, refused, number, two, list, Lot, House, the-lot, all-in, good-call, turned-by, turned, place, told, answer, Limits as All-limits}
 use Rattle.ledger.specs.Houses.{house-in}
 use Rattle.ledger.specs.Opening.{new-words}
 use Rattle.ledger.proofs.Opened.{new-sound}
@@ -23,24 +23,21 @@ neither : {A : Type 0} {x y z : A} (t : Bool) → x ≢ z → y ≢ z → pick t
 neither true a b = a
 neither false a b = b
 
-not-three : (n : ℕ) → eqb n 3 ≡ false → n ≢ 3
-not-three n e = eqb-false n 3 e
-
 turned-by-three : (l : All-limits) (h : House) (c : Call) → turned-by l h c ≢ 3
-turned-by-three l h (opens n t) = neither (ltb (h .now) t) (neither (ltb (length (h .lots)) (l .lots)) (not-three 0 refl) (not-three 8 refl)) (not-three 7 refl)
+turned-by-three l h (opens n t) = neither (ltb (h .now) t) (neither (ltb (length (h .lots)) (l .lots)) (eqb-false 0 3 refl) (eqb-false 8 3 refl)) (eqb-false 7 3 refl)
 turned-by-three l h (bids k b bs) =
     let o : Lot = the-lot h k in
-    neither (ltb k (length (h .lots))) (neither (ltb (h .now) (o .until)) (neither (all-in bs (o .pieces)) (not-three 0 refl) (not-three 6 refl)) (not-three 5 refl)) (not-three 4 refl)
-turned-by-three l h (ticks n) = neither (ltb (h .now + n) 16777216) (not-three 0 refl) (not-three 8 refl)
-turned-by-three l h (my-bids k b) = neither (ltb k (length (h .lots))) (not-three 0 refl) (not-three 4 refl)
-turned-by-three l h (result k b) = neither (ltb k (length (h .lots))) (neither (leb (the-lot h k .until) (h .now)) (not-three 0 refl) (not-three 5 refl)) (not-three 4 refl)
-turned-by-three l h (brings k) = neither (ltb k (length (h .lots))) (neither (leb (the-lot h k .until) (h .now)) (not-three 0 refl) (not-three 5 refl)) (not-three 4 refl)
-turned-by-three l h (lot-is k) = neither (ltb k (length (h .lots))) (not-three 0 refl) (not-three 4 refl)
-turned-by-three l h (garbled n) = not-three 1 refl
+    neither (ltb k (length (h .lots))) (neither (ltb (h .now) (o .until)) (neither (all-in bs (o .pieces)) (eqb-false 0 3 refl) (eqb-false 6 3 refl)) (eqb-false 5 3 refl)) (eqb-false 4 3 refl)
+turned-by-three l h (ticks n) = neither (ltb (h .now + n) 16777216) (eqb-false 0 3 refl) (eqb-false 8 3 refl)
+turned-by-three l h (my-bids k b) = neither (ltb k (length (h .lots))) (eqb-false 0 3 refl) (eqb-false 4 3 refl)
+turned-by-three l h (result k b) = neither (ltb k (length (h .lots))) (neither (leb (the-lot h k .until) (h .now)) (eqb-false 0 3 refl) (eqb-false 5 3 refl)) (eqb-false 4 3 refl)
+turned-by-three l h (brings k) = neither (ltb k (length (h .lots))) (neither (leb (the-lot h k .until) (h .now)) (eqb-false 0 3 refl) (eqb-false 5 3 refl)) (eqb-false 4 3 refl)
+turned-by-three l h (lot-is k) = neither (ltb k (length (h .lots))) (eqb-false 0 3 refl) (eqb-false 4 3 refl)
+turned-by-three l h (garbled n) = eqb-false 1 3 refl
 
 -- the written house never turns away by 3
 pub turned-three : (l : All-limits) (h : House) (c : Call) → turned l h c ≢ 3
-turned-three l h c = neither (good-call l c) (turned-by-three l h c) (not-three 2 refl)
+turned-three l h c = neither (good-call l c) (turned-by-three l h c) (eqb-false 2 3 refl)
 
 number-tells : (x n p : ℕ) → number x ≢ refused n p
 number-tells x n p e = let z : _≡_ {A = ℕ} 0 1 = cc in omega arith

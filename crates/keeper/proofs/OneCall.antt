@@ -1,5 +1,5 @@
 -- One call on sound words: they hold the house after it, with the same limits, and are sound again. Assumes nothing.
-use mathlib.Core.Path.{_≡_, refl, sym, ap, subst, _∙_}
+use mathlib.Core.Path.{_≡_, refl, sym, subst, _∙_}
 use mathlib.Core.Bool.{true, _&&_, _||_}
 use mathlib.Core.Logic.{_⊎_, inl, inr}
 use mathlib.Core.List.{List}
@@ -11,10 +11,10 @@ use Rattle.std.proofs.shelf.Lists.{length-set, getD-set-other}
 use Rattle.std.proofs.shelf.Tests.{cases-eq, and-parts, ltb-true, leb-true, eq-eqb, ne-eqb}
 use Rattle.auction.specs.Bids.{Bids}
 use Rattle.auction.specs.House.{Call, opens, bids, ticks, my-bids, result, brings, lot-is, garbled, House, call-number, prices-fine, good-fields, good-call, turned-by, turned, changed, after, answer, Limits as All-limits}
-use Rattle.auction.specs.Promise.{field, fields-of, readable}
+use Rattle.auction.specs.Promise.{field, readable}
 use Rattle.auction.proofs.HouseLaws.{pick-zero, bids-taken, after-taken, after-refused}
 use Rattle.bundles.proofs.Picks.{pick-yes, pick-no}
-use Rattle.ledger.specs.Layout.{now-at, count-at, lot-at, row-at}
+use Rattle.ledger.specs.Layout.{now-at, count-at, lot-at}
 use Rattle.ledger.specs.Words.{with-row, writable}
 use Rattle.ledger.specs.Houses.{limits-in, house-in, is-house, Sound, with-now, with-lot}
 use Rattle.ledger.specs.Laws.{Bids-land, Lots-land, Time-lands}
@@ -76,13 +76,14 @@ opens-land m n t s r e =
     let f = house-facts m (s .house) in
     let room : lot-at k + 1 < length m = omega (arith, f .room) in
     let fields = and-parts (field n) (field t) r in
-    let landed = lots-land m n t can-do s more (ltb-true _ _ (fields .0)) (ltb-true _ _ (fields .1)) in
-    (landed .0,
-    record {
-      sound = landed .1;
-      limits = same-limits m (with-lot m k n t) (lot-below m k n t room 0 (omega arith)) (lot-below m k n t room 1 (omega arith)) (lot-below m k n t room 2 (omega arith));
-      len = length-with-lot m k n t room;
-    })
+    let landed = lots-land m n t can-do s more (ltb-true _ _ (fields .0)) (ltb-true _ _ (fields .1)) in (
+      landed .0,
+      record {
+        sound = landed .1;
+        limits = same-limits m (with-lot m k n t) (lot-below m k n t room 0 (omega arith)) (lot-below m k n t room 1 (omega arith)) (lot-below m k n t room 2 (omega arith));
+        len = length-with-lot m k n t room;
+      },
+    )
 
 bids-fit : (m : List ℕ) (k b : ℕ) (bs : Bids) → readable (bids k b bs) ≡ true → Row-asked m k b bs → writable bs ≡ true
 unfolding readable
@@ -98,26 +99,28 @@ bids-done m k b bs s r e =
     let there : k < getD m 0 0 = omega (arith, f .few, a .lot) in
     let landed = bids-land m k b bs can-do s (a .lot) (a .bidder) (a .few) (bids-fit m k b bs r a) in
     let low : (i : ℕ) → i < 8 → getD (with-row (limits-in m) m k b bs) i 0 ≡ getD m i 0 =
-    λ i h. with-row-below (limits-in m) m k b bs there (a .bidder) (f .room) (a .few) i (omega arith) in
-    (landed .0,
-    record {
-      sound = landed .1;
-      limits = same-limits m (with-row (limits-in m) m k b bs) (low 0 (omega arith)) (low 1 (omega arith)) (low 2 (omega arith));
-      len = length-with-row (limits-in m) m k b bs there (a .bidder) (f .room) (a .few);
-    })
+    λ i h. with-row-below (limits-in m) m k b bs there (a .bidder) (f .room) (a .few) i (omega arith) in (
+      landed .0,
+      record {
+        sound = landed .1;
+        limits = same-limits m (with-row (limits-in m) m k b bs) (low 0 (omega arith)) (low 1 (omega arith)) (low 2 (omega arith));
+        len = length-with-row (limits-in m) m k b bs there (a .bidder) (f .room) (a .few);
+      },
+    )
 
 ticks-land : (m : List ℕ) (n : ℕ) → Sound m → turned (limits-now m) (house-in m) (ticks n) ≡ 0 → Lands m (ticks n) (edit m (ticks n))
 unfolding Time-lands house-in
 ticks-land m n s e =
     let t : ℕ = getD m now-at 0 + n in
     let early = pick-zero (ltb t 16777216) _ _ (good-taken (limits-now m) (house-in m) (ticks n) e .1) in
-    let landed = time-lands m n can-do s (ltb-true _ _ (early .0)) in
-    (landed .0,
-    record {
-      sound = landed .1;
-      limits = same-limits m (with-now m t) (getD-set-other m now-at 0 t 0 (λ z. omega arith)) (getD-set-other m now-at 1 t 0 (λ z. omega arith)) (getD-set-other m now-at 2 t 0 (λ z. omega arith));
-      len = length-set m now-at t;
-    })
+    let landed = time-lands m n can-do s (ltb-true _ _ (early .0)) in (
+      landed .0,
+      record {
+        sound = landed .1;
+        limits = same-limits m (with-now m t) (getD-set-other m now-at 0 t 0 (λ z. omega arith)) (getD-set-other m now-at 1 t 0 (λ z. omega arith)) (getD-set-other m now-at 2 t 0 (λ z. omega arith));
+        len = length-set m now-at t;
+      },
+    )
 
 edit-lands : (m : List ℕ) (c : Call) → Sound m → readable c ≡ true → turned (limits-now m) (house-in m) c ≡ 0 → Lands m c (edit m c)
 edit-lands m (opens n t) s r e = opens-land m n t s r e
@@ -147,6 +150,7 @@ next-lands m c s r = go (cases-eq (turned-in m c) 0)
   where
     asked : turned-in m c ≡ turned (limits-now m) (house-in m) c
     asked = turned-house m c (s .house)
+
     go : (turned-in m c ≡ 0) ⊎ (turned-in m c ≡ 0 → ⊥) → (house-in (next-in m c) ≡ after (limits-now m) (house-in m) c) × Kept m (next-in m c)
     go (inl e) =
         let taken = sym asked ∙ e in

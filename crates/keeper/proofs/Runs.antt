@@ -2,9 +2,8 @@
 use mathlib.Core.Path.{_≡_, refl, sym, ap, ap₂, _∙_}
 use mathlib.Core.Bool.{Bool, true}
 use mathlib.Core.List.{List, [], _∷_, _++_}
-use Prim.Native.Nat.{ℕ, _≤_, _<_}
+use Prim.Native.Nat.{ℕ}
 use native.Mathlib.Omega.{arith}
-use lib.ListN.{length}
 use Rattle.std.proofs.shelf.Tests.{and-parts, and-from}
 use Rattle.auction.specs.House.{Call, Answer, House, turned, after, answer, answers, ran, new-house, Limits as All-limits}
 use Rattle.auction.specs.Promise.{Memory, Good-limits, readable, all-readable, told-by, left-by, thin, Right, Refusal-keeps, Enough-memory}

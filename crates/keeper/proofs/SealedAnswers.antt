@@ -5,7 +5,7 @@ use mathlib.Core.List.{List, [], _∷_, _++_}
 use Prim.Native.Nat.{ℕ}
 use Rattle.std.proofs.shelf.Tests.{and-parts, and-from}
 use Rattle.auction.specs.Bids.{pick}
-use Rattle.auction.specs.House.{Call, Answer, Limits, House, after, answer, answers, new-house}
+use Rattle.auction.specs.House.{Call, Answer, Limits, House, after, answers, new-house}
 use Rattle.auction.specs.Promise.{Keeper, Memory, readable, all-readable, told-by, thin, others-on, but-others, answers-but, Right, Sealed}
 use Rattle.auction.proofs.Sealed.{sealed}
 use Rattle.keeper.specs.Keeping.{the-keeper}
