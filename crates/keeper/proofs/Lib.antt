@@ -1,0 +1,5 @@
+pub mod OneCall
+pub mod Runs
+pub mod NeverThree
+pub mod SealedAnswers
+pub mod Behind
