@@ -1,6 +1,6 @@
 -- What the checks say of a memory and a call: why the call is turned away, or that it is taken, with what its deed asks for. Assumes nothing: these are definitions.
 use mathlib.Core.Path.{_≡_}
-use mathlib.Core.List.{List, []}
+use mathlib.Core.List.{List}
 use Prim.Native.Nat.{ℕ, _+_, _≤_, _<_}
 use lib.ListN.{length, getD}
 use Rattle.auction.specs.Bids.{Bids}
@@ -17,7 +17,7 @@ use Rattle.wire.specs.Refusals.{refusal-number}
 use Rattle.rules.specs.declared.bidding.Taking.{Taking}
 use Rattle.rules.specs.declared.turned.Turned.{Turned}
 
--- the call is turned away, by this refusal and at this place
+-- the call is turned away, by this refusal and at this place: that is what the house says, and its words stay as they are
 pub record Refuses (m : List ℕ) (c : Call) (t : Turned) : Type 0 where
   pub number : refusal-number (t .refusal) ≡ turned-in m c
   pub place : t .place ≡ place-in m c
@@ -56,7 +56,8 @@ pub record Ticks (m : List ℕ) (n : ℕ) (t : ℕ) : Type 0 where
 -- a bidder's bids on a lot can be shown, in a house with this header
 pub record Shows (m : List ℕ) (k b : ℕ) (h : Header) : Type 0 where
   pub taken : turned-in m (my-bids k b) ≡ 0
-  pub row : Has-row (h .limits) k b
+  pub stands : Stands m h
+  pub place : Has-row (h .limits) k b
   pub room : house-words (h .limits) ≤ length m
   pub said : says-in m (my-bids k b) ≡ list (bids-at (h .limits) m k b)
   pub after : next-in m (my-bids k b) ≡ m

@@ -10,6 +10,7 @@ use crate::turned::Turned;
 use ledger::Header;
 use ledger::stands;
 
+// The header, whose count is where the lot goes.
 pub fn may_open(memory: &[u32], pieces: u32, until: u32) -> Result<Header, Turned>
     ensures { λ r. ⌜ Cases r (λ h. Opens (now (memory .entry)) pieces until h) (λ t. Refuses (now (memory .entry)) (opens pieces until) t) ⌝ }
 {
