@@ -10,6 +10,7 @@ pub use unable::not_yet;
 pub use unable::unreadable;
 
 pub mod bidding;
+mod bounds;
 mod fine;
 pub mod opening;
 pub mod showing;
