@@ -5,9 +5,9 @@ ghost use Rattle.std.specs.Results.{Cases};
 ghost use Rattle.wire.specs.Offers.{offers};
 use crate::fine::all_fit;
 use crate::fine::row_of;
-use crate::turned::NOT_IN_LOT;
 use crate::turned::NO_HOUSE;
 use crate::turned::NO_SUCH_LOT;
+use crate::turned::NOT_IN_LOT;
 use crate::turned::OUT_OF_RANGE;
 use crate::turned::Turned;
 use crate::turned::WRONG_TIME;
@@ -24,6 +24,7 @@ pub struct Taking {
     pub row: Row,
 }
 
+// The bids, decoded, which take the place of those before.
 pub fn may_bid(memory: &[u32], lot: u32, bidder: u32, bids: Bids<'_>) -> Result<Taking, Turned>
     ensures { λ r. ⌜ Cases r (λ t. Takes (now (memory .entry)) lot bidder (offers (bids .entry)) t) (λ t. Refuses (now (memory .entry)) (bids-on lot bidder (offers (bids .entry))) t) ⌝ }
 {

@@ -11,6 +11,7 @@ ghost use Rattle.bundles.specs.Offers.{all-meant, meant};
 ghost use Rattle.bundles.specs.Rows.{held};
 ghost use Rattle.rules.specs.Fine.{fine};
 ghost use Rattle.wire.specs.Offers.{offers};
+use crate::bounds::HIGHEST_PRICE;
 use bundles::Bid;
 use bundles::Row;
 use wire::Bids;
@@ -59,7 +60,7 @@ fn decoded(bids: Bids<'_>) -> Option<Row>
 fn is_fine(bid: Bid) -> bool
     ensures { λ r. ⌜ r ≡ fine (meant bid) ⌝ }
 {
-    if bid.price < 1 || bid.price > 1000000000 {
+    if bid.price < 1 || bid.price > HIGHEST_PRICE {
         return false;
     }
     !bid.on.is_empty()

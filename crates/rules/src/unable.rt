@@ -12,12 +12,12 @@ use wire::Refusal;
 pub fn unreadable(memory: &[u32], place: usize) -> Turned
     ensures { λ t. ⌜ Refuses (now (memory .entry)) (garbled place) t ⌝ }
 {
-    let Some(_) = stands(memory) else {
-        return NO_HOUSE;
-    };
-    Turned {
-        refusal: Refusal::Unreadable,
-        place: place as u64,
+    match stands(memory) {
+        Some(_) => Turned {
+            refusal: Refusal::Unreadable,
+            place: place as u64,
+        },
+        None => NO_HOUSE,
     }
 }
 
@@ -26,8 +26,8 @@ pub fn not_yet(memory: &[u32]) -> Turned
     ensures result { λ t. ⌜ ((k b : ℕ) → Refuses (now (memory .entry)) (result k b) t) ⌝ }
     ensures brings { λ t. ⌜ ((k : ℕ) → Refuses (now (memory .entry)) (brings k) t) ⌝ }
 {
-    let Some(_) = stands(memory) else {
-        return NO_HOUSE;
-    };
-    OUT_OF_RANGE
+    match stands(memory) {
+        Some(_) => OUT_OF_RANGE,
+        None => NO_HOUSE,
+    }
 }

@@ -15,11 +15,10 @@ returns-then-not-is-fine c =
 pub loop-bid-again : need.loop-bid-again
 loop-bid-again c =
     let there = c .in-Some .ensures tt in
-    let bs = offers (c .args .bids) in
-    (
+    let bs = offers (c .args .bids) in (
       c .loop-bid .inv .0 ∙ fine-step bs (c .loop-bid .i) (meant (c .in-Some .bid)) true (there .0) (there .1) (c .if-not-is-fine .ensures tt),
       row-more (held (c .loop-bid .row)) (held (c .push .last .self)) (c .in-Some .bid) (c .push .result) (c .loop-bid .i) bs (c .loop-bid .inv .1) (there .0) (c .pre) (there .1) (c .push .ensures .pushed)
-      (c .push .ensures .full),
+          (c .push .ensures .full),
       omega (arith, there .0),
     )
 

@@ -2,6 +2,8 @@
 ghost use Rattle.rules.specs.Checks.{Refuses, Ticks};
 ghost use Rattle.auction.specs.House.{ticks as let-by};
 ghost use Rattle.std.specs.Results.{Cases};
+use crate::bounds::MOST_TICKS;
+use crate::bounds::TICKS;
 use crate::turned::ABOVE_LIMITS;
 use crate::turned::NO_HOUSE;
 use crate::turned::OUT_OF_RANGE;
@@ -15,11 +17,11 @@ pub fn may_tick(memory: &[u32], ticks: u32) -> Result<u32, Turned>
     let Some(header) = stands(memory) else {
         return Err(NO_HOUSE);
     };
-    if ticks < 1 || ticks > 65536 {
+    if ticks < 1 || ticks > MOST_TICKS {
         return Err(OUT_OF_RANGE);
     }
     let later = header.now + ticks;
-    if later >= 16777216 {
+    if later >= TICKS {
         return Err(ABOVE_LIMITS);
     }
     Ok(later)
