@@ -41,19 +41,23 @@ fn run(
     words: &[String],
     file: Option<usize>,
 ) -> Result<(), AnyError> {
-    let Ok(_memory) = opened(rt.alloc(), limits) else {
+    let Ok(mut memory) = opened(rt.alloc(), limits) else {
         eprintln!(rt, "house: no memory for a house with these limits")?;
         return Err("no memory".into());
     };
     match file {
-        None => told(rt, "standard input", serve(rt, rt.stdin())),
-        Some(at) => serve_file(rt, word(words, at)),
+        None => told(
+            rt,
+            "standard input",
+            serve(rt, memory.as_mut_slice(), rt.stdin()),
+        ),
+        Some(at) => serve_file(rt, memory.as_mut_slice(), word(words, at)),
     }
 }
 
-fn serve_file(rt: &LibcRuntime, name: &str) -> Result<(), AnyError> {
+fn serve_file(rt: &LibcRuntime, memory: &mut [u32], name: &str) -> Result<(), AnyError> {
     match File::open(rt, name) {
-        Ok(file) => told(rt, name, serve(rt, file)),
+        Ok(file) => told(rt, name, serve(rt, memory, file)),
         Err(e) => told(rt, name, Err(e)),
     }
 }
