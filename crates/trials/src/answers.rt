@@ -2,7 +2,9 @@
 use bundles::Bid;
 use bundles::Bundle;
 use bundles::Row;
+use ledger::Limits;
 use session::call;
+use session::open;
 use std::test::*;
 use wire::Answer;
 use wire::Refusal;
@@ -106,13 +108,30 @@ fn bytes_that_are_no_answer() -> Result<(), Fail> {
 }
 
 #[test]
-fn the_house_turns_every_call_away() -> Result<(), Fail> {
-    let mut out = [0u8; 256];
-    check_eq(call(&[6, 0, 0, 0, 0], &mut out), 17)?;
-    check_eq(out[0], 0)?;
-    check_eq(out[1], 2).note("a call that it can't do")?;
-    check_eq(out[9], 0)?;
-    check_eq(call(&[6, 0, 0], &mut out), 17)?;
-    check_eq(out[1], 1).note("bytes that are no call")?;
-    check_eq(out[9], 3).note("where they end")
+fn the_session_answers_bytes_with_bytes(rt: LibcRuntime) -> Result<(), Fail> {
+    let mut memory = vec![in rt.alloc(); 7u32; 1000000]?;
+    let limits = Limits {
+        lots: 1,
+        bidders: 1,
+        each: 1,
+    };
+    check(open(limits, memory.as_mut_slice()).is_ok())?;
+    let mut out = [9u8; 256];
+    check_eq(
+        call(
+            memory.as_mut_slice(),
+            &[0, 2, 0, 0, 0, 10, 0, 0, 0],
+            &mut out,
+        ),
+        9,
+    )?;
+    check(&out[0..10] == &[1, 0, 0, 0, 0, 0, 0, 0, 0, 9]).note(
+        "lot 0, and what lies behind stays",
+    )?;
+    check_eq(call(memory.as_mut_slice(), &[6, 0, 0, 0, 0], &mut out), 17)?;
+    check(&out[0..17] == &[2, 2, 0, 0, 0, 0, 0, 0, 0, 10, 0, 0, 0, 0, 0, 0, 0])?;
+    check_eq(call(memory.as_mut_slice(), &[6, 0, 0], &mut out), 17)?;
+    check(&out[0..17] == &[0, 1, 0, 0, 0, 0, 0, 0, 0, 3, 0, 0, 0, 0, 0, 0, 0]).note(
+        "bytes that end too soon",
+    )
 }

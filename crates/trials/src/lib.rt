@@ -8,4 +8,8 @@ mod lines;
 #[cfg(test)]
 mod memory;
 #[cfg(test)]
+mod refusals;
+#[cfg(test)]
+mod rows;
+#[cfg(test)]
 mod sets;
