@@ -1,15 +1,14 @@
 // The bids of a call, looked at one by one: decoded, in range, and within a lot.
 ghost use Prim.Native.Nat.{_≤_};
-ghost use mathlib.Core.Bool.{_&&_, false, true};
+ghost use mathlib.Core.Bool.{false, true};
 ghost use mathlib.Core.Path.{_≡_};
-ghost use lib.Dec.{leb};
 ghost use lib.ListN.{length};
 ghost use Rattle.std.specs.Options.{Cases};
 ghost use Rattle.auction.specs.Bids.{all, within};
 ghost use Rattle.auction.specs.House.{all-in, prices-fine};
 ghost use Rattle.bundles.specs.Offers.{all-meant, meant};
 ghost use Rattle.bundles.specs.Rows.{held};
-ghost use Rattle.rules.specs.Fine.{fine};
+ghost use Rattle.rules.specs.Fine.{Holds, all-fine, fine};
 ghost use Rattle.wire.specs.Offers.{offers};
 use crate::bounds::HIGHEST_PRICE;
 use bundles::Bid;
@@ -19,7 +18,7 @@ use wire::Bids;
 // The bids as a row, if there are no more than so many, which are sixteen at most, and each is in range.
 pub fn row_of(bids: Bids<'_>, most: u32) -> Option<Row>
     requires { ⌜ most ≤ 16 ⌝ }
-    ensures { λ r. ⌜ Cases r ((leb (length (offers (bids .entry))) most && prices-fine (offers (bids .entry))) ≡ false) (λ row. ((leb (length (offers (bids .entry))) most && prices-fine (offers (bids .entry))) ≡ true) × (all-meant (held row) ≡ offers (bids .entry)) × (length (held row) ≤ most)) ⌝ }
+    ensures { λ r. ⌜ Cases r (all-fine most (offers (bids .entry)) ≡ false) (λ row. (all-fine most (offers (bids .entry)) ≡ true) × Holds row (offers (bids .entry)) × (length (held row) ≤ most)) ⌝ }
 {
     if bids.len() > most as usize {
         return None;
@@ -42,7 +41,7 @@ pub fn all_fit(bids: &[Bid], pieces: u32) -> bool
 // The bids as a row, if each is in range.
 fn decoded(bids: Bids<'_>) -> Option<Row>
     requires { ⌜ length (offers bids) ≤ 16 ⌝ }
-    ensures { λ r. ⌜ Cases r (prices-fine (offers (bids .entry)) ≡ false) (λ row. (prices-fine (offers (bids .entry)) ≡ true) × (all-meant (held row) ≡ offers (bids .entry)) × (length (held row) ≡ length (offers (bids .entry)))) ⌝ }
+    ensures { λ r. ⌜ Cases r (prices-fine (offers (bids .entry)) ≡ false) (λ row. (prices-fine (offers (bids .entry)) ≡ true) × Holds row (offers (bids .entry))) ⌝ }
 {
     let mut row = Row::new();
     let mut i = 0;

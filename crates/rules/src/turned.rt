@@ -8,12 +8,13 @@ pub struct Turned {
     pub place: u64,
 }
 
-// What a call is turned away by, with the places of the list: 0 where it says nothing else. Where the memory is no house, every call is turned away by the first of these.
+// Where the memory is no house, every call is turned away so.
 pub const NO_HOUSE: Turned = Turned {
     refusal: Refusal::NoHouse,
     place: 0,
 };
 
+// The others, each at the place that the list of refusals gives it.
 pub const OUT_OF_RANGE: Turned = Turned {
     refusal: Refusal::OutOfRange,
     place: 0,

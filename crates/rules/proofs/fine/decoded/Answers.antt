@@ -27,4 +27,4 @@ returns c =
     let bs = offers (c .args .bids) in
     let end = c .in-rest .ensures tt in
     let same = row-all (held (c .loop-bid .row)) (c .loop-bid .i) bs (c .loop-bid .inv .1) end in
-    (c .loop-bid .inv .0 ∙ fine-all bs (c .loop-bid .i) end, same, row-long (held (c .loop-bid .row)) bs same)
+    (c .loop-bid .inv .0 ∙ fine-all bs (c .loop-bid .i) end, record { made = same; long = row-long (held (c .loop-bid .row)) bs same })
