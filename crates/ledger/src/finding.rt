@@ -48,7 +48,7 @@ pub fn find_place(memory: &[u32], number: u32) -> Option<usize>
     }
 }
 
-// The first lot that closes after this one, or with none the first of all. One pass over the lots.
+// The first lot that closes after this one, or with none the first of all. Linear in the lots: the tick of each is read once.
 pub fn next_closing(memory: &[u32], after: Option<Closing>) -> Option<Closing>
     ensures { λ r. ⌜ Next-closing (lots-in (now (memory .entry))) after r ⌝ }
 {
@@ -58,7 +58,7 @@ pub fn next_closing(memory: &[u32], after: Option<Closing>) -> Option<Closing>
     first_after(memory, header.count, after)
 }
 
-// How many lots are closed by now. One pass over the lots.
+// How many lots are closed by now. Linear in the lots: the tick of each is read once.
 pub fn closed_by_now(memory: &[u32]) -> u32
     ensures { λ r. ⌜ r ≡ how-many-closed (house-in (now (memory .entry)) .now) (lots-in (now (memory .entry))) ⌝ }
 {
