@@ -3,3 +3,4 @@ pub mod Runs
 pub mod NeverThree
 pub mod SealedAnswers
 pub mod Behind
+pub mod Twice

@@ -1,7 +1,7 @@
 // What the house that runs is held to: each function here carries one theorem on its contract, and computes nothing.
 ghost use Rattle.auction.specs.Promise.{Enough-memory, Refusal-keeps, Right, thin};
 ghost use Rattle.keeper.specs.Keeping.{the-keeper};
-ghost use Rattle.keeper.specs.Promises.{Behind-stays, Never-three, Sealed-answers};
+ghost use Rattle.keeper.specs.Promises.{Behind-stays, Never-three, No-trace, Sealed-answers};
 
 // For every list of calls the answers are those of the written house, as far as this stage goes.
 pub fn right_for_the_first_stage()
@@ -31,4 +31,9 @@ pub fn answers_keep_bids_sealed()
 // What lies behind the house's words stays as it is, and has no part in the answers.
 pub fn what_lies_behind_stays()
     ensures { λ _. ⌜ Behind-stays ⌝ }
+{}
+
+// Bidding twice leaves the very same memory, word for word, as if the first bids had never been.
+pub fn bidding_twice_leaves_no_trace()
+    ensures { λ _. ⌜ No-trace ⌝ }
 {}

@@ -8,3 +8,4 @@ pub mod TimeDeeds
 pub mod LotDeeds
 pub mod Opened
 pub mod LedgerLaws
+pub mod Found

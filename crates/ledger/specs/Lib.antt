@@ -3,3 +3,4 @@ pub mod Words
 pub mod Houses
 pub mod Opening
 pub mod Laws
+pub mod Finding

@@ -1,4 +1,9 @@
 // The house's whole state in one lent slice of words: header, lots, rows of bids, and tables for the solver.
+pub use finding::Closing;
+pub use finding::closed_by_now;
+pub use finding::find_lot;
+pub use finding::find_place;
+pub use finding::next_closing;
 pub use layout::Limits;
 pub use layout::words_needed;
 pub use lots::Lot;
@@ -12,6 +17,7 @@ pub use standing::Header;
 pub use standing::set_now;
 pub use standing::stands;
 
+pub mod finding;
 pub mod laws;
 pub mod layout;
 pub mod lots;
