@@ -4,6 +4,8 @@ mod answers;
 #[cfg(test)]
 mod calls;
 #[cfg(test)]
+mod finding;
+#[cfg(test)]
 mod lines;
 #[cfg(test)]
 mod memory;
