@@ -4,6 +4,8 @@ mod answers;
 #[cfg(test)]
 mod calls;
 #[cfg(test)]
+mod days;
+#[cfg(test)]
 mod finding;
 #[cfg(test)]
 mod lines;

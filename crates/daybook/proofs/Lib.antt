@@ -1,0 +1,4 @@
+pub mod Cuts
+pub mod Frames
+pub mod Turns
+pub mod Openings
