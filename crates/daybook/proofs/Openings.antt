@@ -14,7 +14,7 @@ use Rattle.auction.specs.House.{House, answers, new-house}
 use Rattle.auction.specs.Promise.{readable, all-readable, thin}
 use Rattle.bundles.proofs.Picks.{pick-yes}
 use Rattle.formats.specs.Laws.{Read-is-readable}
-use Rattle.formats.proofs.RoundTrips.{read-is-readable}
+use Rattle.formats.proofs.RoundTrips.{read-is-readable, take-bytes}
 use Rattle.keeper.proofs.Runs.{right-from}
 use Rattle.ledger.specs.Houses.{limits-of}
 use Rattle.ledger.specs.Laws.{New-house}
@@ -28,13 +28,6 @@ use Rattle.wire.specs.Calls.{call-in}
 use Rattle.wire.proofs.Spelling.{rest-bytes}
 use Rattle.daybook.specs.Records.{records-behind, calls-in, told, roomy}
 
--- some of the bytes are bytes
-front-bytes : (n : ℕ) (bs : List ℕ) → AllBytes bs → AllBytes (take n bs)
-front-bytes zero bs h i = omega arith
-front-bytes (suc n) [] h i = omega arith
-front-bytes (suc n) (b ∷ bs) h zero = h 0
-front-bytes (suc n) (b ∷ bs) h (suc i) = front-bytes n bs (rest-bytes b bs h) i
-
 -- every record is a call that can be carried
 all-read : (n : ℕ) (bs : List ℕ) → AllBytes bs → all-readable (map call-in (records-behind n bs)) ≡ true
 unfolding records-behind all-readable Read-is-readable
@@ -42,7 +35,7 @@ all-read zero [] h = refl
 all-read zero (a ∷ []) h = refl
 all-read zero (a ∷ b ∷ bs) h =
     let rest : AllBytes bs = rest-bytes b bs (rest-bytes a (b ∷ bs) h) in
-    and-from (readable (call-in (take (a + 256 * b) bs))) _ (read-is-readable (take (a + 256 * b) bs) (front-bytes (a + 256 * b) bs rest)) (all-read (a + 256 * b) bs rest)
+    and-from (readable (call-in (take (a + 256 * b) bs))) _ (read-is-readable (take (a + 256 * b) bs) (take-bytes (a + 256 * b) bs rest)) (all-read (a + 256 * b) bs rest)
 all-read (suc n) [] h = refl
 all-read (suc n) (b ∷ bs) h = all-read n bs (rest-bytes b bs h)
 

@@ -248,7 +248,7 @@ front-size bs more m some long past =
     bid-past : getD (take m bs ++ more) 0 0 ≡ getD bs 0 0 → getD (take m bs ++ more) 0 0 ≡ 1 → 9 < m
     bid-past same one = grind (arith, tells)
 
-take-bytes : (n : ℕ) (bs : List ℕ) → AllBytes bs → AllBytes (take n bs)
+pub take-bytes : (n : ℕ) (bs : List ℕ) → AllBytes bs → AllBytes (take n bs)
 take-bytes zero bs h i = omega arith
 take-bytes (suc n) [] h i = omega arith
 take-bytes (suc n) (b ∷ bs) h zero = h 0
