@@ -1,4 +1,6 @@
 // What the auction promises: each function here carries one theorem on its contract, and computes nothing. docs/THEOREMS.md is their index.
+#![tactic(auto)]
+
 ghost use Rattle.auction.specs.Promise.{TruthIsBest, Sealed, BestOfAll, NotMoreThanBid, NeverLoses, RaisingKeeps};
 ghost use Rattle.auction.specs.Promise.{ClosedStays, LotsApart, LastCounts, TurnedAway};
 ghost use Rattle.auction.specs.Laws.{NoTieRuleRewardsLying, RaisingKeepsPlace, AnyFirst, TwoGroups, UnwantedPieces, SettledApart, SettledOnPieces, ManyGroups};

@@ -1,4 +1,6 @@
 // Sets of pieces as the bits of a number, piece 0 the lowest, and bids on them, by value.
+#![tactic(auto)]
+
 ghost use Rattle.std.specs.Prelude.{◌≡◌, ℕ, ◌^◌, ◌<◌, false, not, Decides, slice_index_or};
 ghost use Rattle.auction.specs.Bids.{within, less, all};
 ghost use Rattle.auction.specs.House.{any};

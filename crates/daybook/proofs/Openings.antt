@@ -3,7 +3,7 @@ use Rattle.std.proofs.Common.{◌≡◌, ℕ, zero, suc, ◌+◌, ◌*◌, ◌�
 use Rattle.std.proofs.lemmas.Bool.{and_from, le-leb}
 use Rattle.auction.specs.Bids.{pick}
 use Rattle.auction.specs.House.{House, answers, new_house}
-use Rattle.auction.specs.Promise.{readable, all_readable, whole}
+use Rattle.auction.specs.Promise.{readable, all_readable, thin}
 use Rattle.bundles.proofs.Picks.{pick_yes}
 use Rattle.formats.specs.Laws.{ReadIsReadable}
 use Rattle.formats.proofs.RoundTrips.{read_is_readable, take_bytes}
@@ -48,9 +48,9 @@ opens_there l m u e = go (good l) (leb (house_words l) (length m)) e
 
 -- the answers are the written house's
 pub as_written : (l : Limits) (m w bs : List ℕ) → Good l → house_words l ≤ length m → NewHouse l m (opened l m) → AllBytes bs → w ≡ after_opening l m →
-    told w (calls_in bs) ≡ answers (limits_of whole l) new_house (calls_in bs)
+    told w (calls_in bs) ≡ answers (limits_of thin l) new_house (calls_in bs)
 as_written l m w bs g room new bytes e =
     let is : w ≡ opened l m = e ∙ pick_yes _ _ (good_limits l g) ∙ pick_yes _ _ (le-leb (house_words l) (length m) room) in
     ap (λ (x : List ℕ). told x (calls_in bs)) is
-    ∙ right_from (limits_of whole l) (opened l m) (calls_in bs) refl new.sound new.limits (all_read 0 bs bytes)
-    ∙ ap (λ (h : House). answers (limits_of whole l) h (calls_in bs)) new.house
+    ∙ right_from (limits_of thin l) (opened l m) (calls_in bs) refl new.sound new.limits (all_read 0 bs bytes)
+    ∙ ap (λ (h : House). answers (limits_of thin l) h (calls_in bs)) new.house

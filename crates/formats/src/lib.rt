@@ -1,5 +1,7 @@
 // The laws of the byte formats: each function here carries one on its contract, and computes nothing. They stand apart
 // from `wire` because their proofs are long and its must-fail edits prove it again each time.
+#![tactic(auto)]
+
 ghost use Rattle.formats.specs.Laws.{AnswersComeBack, AnswersFit, BytesComeBack, CallsComeBack, OneRowACall, PlaceIsLongest, ReadIsReadable};
 
 // Reading the bytes of a call gives it back.

@@ -1,12 +1,15 @@
 // The program `house`: answers each call of a file, or of standard input, with a line.
+#![tactic(auto)]
+
 use anyhow::anyhow;
 use ledger::Limits;
+use memory::opened;
 use options::{Fault, HELP, Wish, wish_of};
-use programs::{opened, told, word};
 use serving::serve;
 use std::fs::File;
 use std::{env, io};
 
+mod memory;
 mod options;
 mod serving;
 
@@ -43,7 +46,6 @@ fn run(
     match file {
         None => told(
             rt,
-            "house",
             "standard input",
             serve(rt, memory.as_mut_slice(), rt.stdin()),
         ),
@@ -53,8 +55,26 @@ fn run(
 
 fn serve_file(rt: &HostRuntime, memory: &mut [u32], name: &str) -> anyhow::Result<()> {
     match File::open(rt, name) {
-        Ok(file) => told(rt, "house", name, serve(rt, memory, file)),
-        Err(e) => told(rt, "house", name, Err(e)),
+        Ok(file) => told(rt, name, serve(rt, memory, file)),
+        Err(e) => told(rt, name, Err(e)),
+    }
+}
+
+// An error of reading or writing is told on standard error, and ends the program with status 1.
+fn told(rt: &HostRuntime, name: &str, done: io::Result<()>) -> anyhow::Result<()> {
+    match done {
+        Ok(()) => Ok(()),
+        Err(e) => {
+            eprintln!(rt; "house: {name}: {e}")?;
+            Err(e.into())
+        }
+    }
+}
+
+fn word<'a>(words: &'a [String], at: usize) -> &'a str {
+    match words.get(at) {
+        Some(text) => text.as_str(),
+        None => "",
     }
 }
 

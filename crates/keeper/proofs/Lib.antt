@@ -1,9 +1,6 @@
 pub mod OneCall
-pub mod Told
 pub mod Runs
 pub mod NeverThree
 pub mod SealedAnswers
-pub mod TruthInAnswers
-pub mod FrontResults
 pub mod Behind
 pub mod Twice

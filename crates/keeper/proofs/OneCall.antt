@@ -1,25 +1,22 @@
 -- One call on sound words: they hold the house after it, with the same limits, and are sound again. Assumes nothing.
-use Rattle.std.proofs.Common.{◌≡◌, ℕ, ◌+◌, ◌<◌, ◌≤◌, Bool, true, ◌&&◌, ◌||◌, eqb, ltb, leb, ◌⊎◌, List, length, get_or, sym, refl, ap, ◌∙◌, subst, inl, inr, ⊎_elim, arith}
+use Rattle.std.proofs.Common.{◌≡◌, ℕ, ◌+◌, ◌<◌, ◌≤◌, true, ◌&&◌, ◌||◌, eqb, ltb, leb, ◌⊎◌, List, length, get_or, sym, refl, ◌∙◌, subst, inl, inr, arith}
 use Rattle.std.proofs.lemmas.List.{length-set, get_or-set_other}
-use Rattle.std.proofs.lemmas.Bool.{cases_Bool, cases_eq, and_parts, ltb-true, leb-true, eq-eqb, ne_eqb}
-use Rattle.auction.specs.Bids.{Bids, pick}
-use Rattle.auction.specs.House.{Call, opens, bids, ticks, my_bids, result, brings, lot_is, garbled, refused, Answer, House, Lot, call_number, prices_fine, good_fields, good_call, turned_by, turned, place, changed, after, Limits as AllLimits}
+use Rattle.std.proofs.lemmas.Bool.{cases_eq, and_parts, ltb-true, leb-true, eq-eqb, ne_eqb}
+use Rattle.auction.specs.Bids.{Bids}
+use Rattle.auction.specs.House.{Call, opens, bids, ticks, my_bids, result, brings, lot_is, garbled, House, call_number, prices_fine, good_fields, good_call, turned_by, turned, changed, after, answer, Limits as AllLimits}
 use Rattle.auction.specs.Promise.{field, readable}
-use Rattle.auction.proofs.HouseLaws.{pick_zero, bids-taken, after-taken, after_refused}
-use Rattle.auction.proofs.Sealed.{asks_over, over_taken}
+use Rattle.auction.proofs.HouseLaws.{pick_zero, bids_taken, after-taken, after_refused}
 use Rattle.bundles.proofs.Picks.{pick_yes, pick_no}
 use Rattle.ledger.specs.Layout.{now_at, count_at, lot_at}
 use Rattle.ledger.specs.Words.{with_row, writable}
-use Rattle.ledger.specs.Houses.{limits_in, lot_words, house_in, is_house, Sound, with_now, with_lot, with_result}
-use Rattle.ledger.specs.Results.{is_kept}
-use Rattle.ledger.specs.Laws.{BidsLand, LotsLand, ResultsLand, TimeLands}
-use Rattle.ledger.proofs.Houses.{house_facts, lot_there, many_lots, same_limits}
+use Rattle.ledger.specs.Houses.{limits_in, house_in, is_house, Sound, with_now, with_lot}
+use Rattle.ledger.specs.Laws.{BidsLand, LotsLand, TimeLands}
+use Rattle.ledger.proofs.Houses.{house_facts, many_lots, same_limits}
 use Rattle.ledger.proofs.LedgerLaws.{bids_land, lots_land, time_lands}
 use Rattle.ledger.proofs.LotDeeds.{length-with_lot, lot_below}
-use Rattle.ledger.proofs.ResultDeeds.{results_land}
 use Rattle.ledger.proofs.RowDeeds.{length-with_row, with_row_below}
 use Rattle.ledger.proofs.RowWords.{call-writable}
-use Rattle.keeper.specs.Keeping.{can_do, limits_now, turned_in, edit, next_in, says_in, told_in}
+use Rattle.keeper.specs.Keeping.{can_do, limits_now, turned_in, edit, next_in, says_in}
 
 -- words that are sound, with the limits of others and as many as they
 pub record Kept (m w : List ℕ) : Type 0 where
@@ -47,35 +44,21 @@ room_for_lot m n t e =
     let room = pick_zero (ltb (length (house_in m).lots) (get_or m 0 0)) _ _ late.1 in
     subst (λ x. x < get_or m 0 0) (many_lots m) (ltb-true _ _ room.0)
 
--- there is the lot whose result is asked for
-pub lot-asked : (m : List ℕ) (t : Bool) (k : ℕ) → asks_over (house_in m) t k ≡ 0 → k < get_or m count_at 0
-lot-asked m t k e = subst (λ x. k < x) (many_lots m) (over_taken (house_in m) t k e).0
-
--- and it is closed by now
-pub over_asked : (m : List ℕ) (t : Bool) (k : ℕ) → asks_over (house_in m) t k ≡ 0 → (lot_words m k).until ≤ get_or m now_at 0
-unfolding house_in
-over_asked m t k e = omega (arith, (over_taken (house_in m) t k e).1, ap (λ (o : Lot). o.until) (lot_there m k (lot-asked m t k e)))
-
 pub record RowAsked (m : List ℕ) (k b : ℕ) (bs : Bids) : Type 0 where
   pub lot : k < get_or m count_at 0
   pub bidder : b < get_or m 1 0
   pub few : length bs ≤ get_or m 2 0
   pub fine : prices_fine bs ≡ true
-  pub still : get_or m now_at 0 < (lot_words m k).until
 
 pub row_asked : (m : List ℕ) (k b : ℕ) (bs : Bids) → turned (limits_now m) (house_in m) (bids k b bs) ≡ 0 → RowAsked m k b bs
-unfolding house_in
 row_asked m k b bs e =
-    let taken = bids-taken (limits_now m) (house_in m) k b bs e in
-    let there : k < get_or m count_at 0 = subst (λ x. k < x) (many_lots m) taken.0 in
     let fields = and_parts (ltb b (get_or m 1 0)) _ (good-taken (limits_now m) (house_in m) (bids k b bs) e).0 in
     let these = and_parts (leb (length bs) (get_or m 2 0)) _ fields.1 in
     record {
-      lot = there;
+      lot = subst (λ x. k < x) (many_lots m) (bids_taken (limits_now m) (house_in m) k b bs e).0;
       bidder = ltb-true _ _ fields.0;
       few = leb-true _ _ these.0;
       fine = these.1;
-      still = omega (arith, taken.1, ap (λ (o : Lot). o.until) (lot_there m k there));
     }
 
 opens_land : (m : List ℕ) (n t : ℕ) → Sound m → readable (opens n t) ≡ true → turned (limits_now m) (house_in m) (opens n t) ≡ 0 → Lands m (opens n t) (edit m (opens n t))
@@ -86,9 +69,7 @@ opens_land m n t s r e =
     let f = house_facts m s.house in
     let room : lot_at k + 1 < length m = omega (arith, f.room) in
     let fields = and_parts (field n) (field t) r in
-    let good = (good-taken (limits_now m) (house_in m) (opens n t) e).0 in
-    let few = and_parts (leb 1 n) (leb n 16) (and_parts (leb 1 n && leb n 16) _ good).0 in
-    let landed = lots_land m n t can_do s more (omega (arith, leb-true n 16 few.1)) (ltb-true _ _ fields.1) in (
+    let landed = lots_land m n t can_do s more (ltb-true _ _ fields.0) (ltb-true _ _ fields.1) in (
       landed.0,
       record {
         sound = landed.1;
@@ -109,7 +90,7 @@ bids_done m k b bs s r e =
     let a = row_asked m k b bs e in
     let f = house_facts m s.house in
     let there : k < get_or m 0 0 = omega (arith, f.few, a.lot) in
-    let landed = bids_land m k b bs can_do s a.lot a.still a.bidder a.few (bids_fit m k b bs r a) in
+    let landed = bids_land m k b bs can_do s a.lot a.bidder a.few (bids_fit m k b bs r a) in
     let low : (i : ℕ) → i < 8 → get_or (with_row (limits_in m) m k b bs) i 0 ≡ get_or m i 0 =
     λ i h. with_row_below (limits_in m) m k b bs there a.bidder f.room a.few i (omega arith) in (
       landed.0,
@@ -134,25 +115,13 @@ ticks_land m n s e =
       },
     )
 
--- a lot's result is kept, or was before
-settled_lands : (m : List ℕ) (t : Bool) (k : ℕ) → Sound m → asks_over (house_in m) t k ≡ 0 → (house_in (pick (is_kept m k) m (with_result m k)) ≡ house_in m) × Kept m (pick (is_kept m k) m (with_result m k))
-unfolding ResultsLand
-settled_lands m t k s e =
-    ⊎_elim (λ kept. subst Settles (sym (pick_yes m (with_result m k) kept)) (refl, kept_same m s))
-    (λ not_yet. let done = results_land m k s (lot-asked m t k e) (over_asked m t k e) not_yet in
-    subst Settles (sym (pick_no m (with_result m k) not_yet)) (done.house, record { sound = done.sound; limits = done.limits; len = done.len }))
-    (cases_Bool (is_kept m k))
-  where
-    Settles : List ℕ → Type 0
-    Settles w = (house_in w ≡ house_in m) × Kept m w
-
 edit_lands : (m : List ℕ) (c : Call) → Sound m → readable c ≡ true → turned (limits_now m) (house_in m) c ≡ 0 → Lands m c (edit m c)
 edit_lands m (opens n t) s r e = opens_land m n t s r e
 edit_lands m (bids k b bs) s r e = bids_done m k b bs s r e
 edit_lands m (ticks n) s r e = ticks_land m n s e
 edit_lands m (my_bids k b) s r e = (refl, kept_same m s)
-edit_lands m (result k b) s r e = settled_lands m (good_call (limits_now m) (result k b)) k s e
-edit_lands m (brings k) s r e = settled_lands m (good_call (limits_now m) (brings k)) k s e
+edit_lands m (result k b) s r e = (refl, kept_same m s)
+edit_lands m (brings k) s r e = (refl, kept_same m s)
 edit_lands m (lot_is k) s r e = (refl, kept_same m s)
 edit_lands m (garbled n) s r e = (refl, kept_same m s)
 
@@ -160,12 +129,8 @@ edit_lands m (garbled n) s r e = (refl, kept_same m s)
 pub turned_house : (m : List ℕ) (c : Call) → is_house m ≡ true → turned_in m c ≡ turned (limits_now m) (house_in m) c
 turned_house m c e = pick_yes _ _ e
 
-pub says_taken : (m : List ℕ) (c : Call) → is_house m ≡ true → turned_in m c ≡ 0 → says_in m c ≡ told_in m c
-says_taken m c house e = pick_yes _ _ house ∙ pick_yes _ _ (eq-eqb (turned_in m c) 0 e)
-
-pub says_refused : (m : List ℕ) (c : Call) → is_house m ≡ true → (turned_in m c ≡ 0 → ⊥) → says_in m c ≡ refused (turned_in m c) (place c (turned_in m c))
-says_refused m c house n =
-    pick_yes _ _ house ∙ pick_no _ _ (ne_eqb (turned_in m c) 0 n) ∙ ap {B = Answer} (refused (turned_in m c)) (pick_yes (place c (turned_in m c)) 0 house)
+pub says_house : (m : List ℕ) (c : Call) → is_house m ≡ true → says_in m c ≡ answer (limits_now m) (house_in m) c
+says_house m c e = pick_yes _ _ e
 
 pub next-taken : (m : List ℕ) (c : Call) → turned_in m c ≡ 0 → next_in m c ≡ edit m c
 next-taken m c e = pick_yes _ _ (eq-eqb (turned_in m c) 0 e)

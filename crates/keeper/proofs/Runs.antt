@@ -2,14 +2,13 @@
 use Rattle.std.proofs.Common.{◌≡◌, ℕ, Bool, true, List, [], ◌∷◌, ◌++◌, sym, refl, ap, ◌∙◌, ap₂, arith}
 use Rattle.std.proofs.lemmas.Bool.{and_parts, and_from}
 use Rattle.auction.specs.House.{Call, Answer, House, turned, after, answer, answers, ran, new_house, Limits as AllLimits}
-use Rattle.auction.specs.Promise.{Memory, GoodLimits, readable, all_readable, told_by, left_by, whole, Right, RefusalKeeps, EnoughMemory}
+use Rattle.auction.specs.Promise.{Memory, GoodLimits, readable, all_readable, told_by, left_by, thin, Right, RefusalKeeps, EnoughMemory}
 use Rattle.ledger.specs.Houses.{limits_in, limits_of, house_in, Sound}
 use Rattle.ledger.specs.Opening.{new_words}
 use Rattle.ledger.proofs.Houses.{all_fit}
 use Rattle.ledger.proofs.Opened.{length_new, new_sound, new_is_new}
 use Rattle.keeper.specs.Keeping.{can_do, limits_now, turned_in, next_in, says_in, word_limits, the_keeper}
-use Rattle.keeper.proofs.OneCall.{Kept, kept_same, turned_house, next_refused, next_lands}
-use Rattle.keeper.proofs.Told.{says_house}
+use Rattle.keeper.proofs.OneCall.{Kept, kept_same, turned_house, says_house, next_refused, next_lands}
 
 -- the words that calls leave
 abbrev pub left : List ℕ → List Call → List ℕ
@@ -22,7 +21,7 @@ limits_are l m t e =
 
 -- one call, with the limits that the house was opened with
 pub says_right : (l : AllLimits) (m : List ℕ) (c : Call) → l.calls_can ≡ can_do → Sound m → limits_in m ≡ word_limits l → says_in m c ≡ answer l (house_in m) c
-says_right l m c t s e = says_house m c s ∙ ap (λ x. answer x (house_in m) c) (limits_are l m t e)
+says_right l m c t s e = says_house m c s.house ∙ ap (λ x. answer x (house_in m) c) (limits_are l m t e)
 
 pub next_right : (l : AllLimits) (m : List ℕ) (c : Call) → l.calls_can ≡ can_do → Sound m → limits_in m ≡ word_limits l → readable c ≡ true → house_in (next_in m c) ≡ after l (house_in m) c
 next_right l m c t s e r = (next_lands m c s r).0 ∙ ap {B = House} (λ x. after x (house_in m) c) (limits_are l m t e)
@@ -37,7 +36,7 @@ right_from l m (c ∷ cs) t s e r =
     let rest = right_from l (next_in m c) cs t k.sound (k.limits ∙ e) reads.1 in
     ap₂ (λ (a : Answer) (more : List Answer). a ∷ more) (says_right l m c t s e) (rest ∙ ap (λ h. answers l h cs) (next_right l m c t s e reads.0))
 
-pub right : Right whole the_keeper
+pub right : Right thin the_keeper
 unfolding Right
 right = λ l cs g t r. right_from l (new_words (word_limits l)) cs t (new_sound (word_limits l) g) refl r ∙ ap (λ h. answers l h cs) (new_is_new (word_limits l))
 
@@ -71,36 +70,17 @@ unfolding all_readable
 readable-front [] ds r = refl
 readable-front (c ∷ cs) ds r = let reads = and_parts (readable c) _ r in and_from (readable c) _ reads.0 (readable-front cs ds reads.1)
 
--- after any calls the words are sound, with the limits that it was opened with, and hold the written house; so the keeper turns away what that does, and answers what that answers
-record Holds (l : AllLimits) (h : House) (w : List ℕ) : Type 0 where
-  pub sound : Sound w
-  pub limits : limits_now w ≡ l
-  pub is : house_in w ≡ h
-
-left_holds : (l : AllLimits) (cs : List Call) → GoodLimits l → l.calls_can ≡ can_do → all_readable cs ≡ true → Holds l (ran l new_house cs) (left (new_words (word_limits l)) cs)
-left_holds l cs g t r =
+-- after any calls the keeper turns away what the written house does
+pub left-turned : (l : AllLimits) (cs : List Call) (c : Call) → GoodLimits l → l.calls_can ≡ can_do → all_readable cs ≡ true →
+    turned_in (left (new_words (word_limits l)) cs) c ≡ turned l (ran l new_house cs) c
+left-turned l cs c g t r =
     let m : List ℕ = new_words (word_limits l) in
     let s = new_sound (word_limits l) g in
     let k = left_kept m cs s r in
-    record {
-      sound = k.sound;
-      limits = limits_are l (left m cs) t k.limits;
-      is = left_house l m cs t s refl r ∙ ap (λ (h : House). ran l h cs) (new_is_new (word_limits l));
-    }
+    let house : house_in (left m cs) ≡ ran l new_house cs = left_house l m cs t s refl r ∙ ap (λ (h : House). ran l h cs) (new_is_new (word_limits l)) in
+    turned_house (left m cs) c k.sound.house ∙ ap₂ (λ (x : AllLimits) (h : House). turned x h c) (limits_are l (left m cs) t k.limits) house
 
-left-turned : (l : AllLimits) (cs : List Call) (c : Call) → GoodLimits l → l.calls_can ≡ can_do → all_readable cs ≡ true →
-    turned_in (left (new_words (word_limits l)) cs) c ≡ turned l (ran l new_house cs) c
-left-turned l cs c g t r =
-    let k = left_holds l cs g t r in
-    turned_house (left (new_words (word_limits l)) cs) c k.sound.house ∙ ap₂ (λ (x : AllLimits) (h : House). turned x h c) k.limits k.is
-
-pub left_says : (l : AllLimits) (cs : List Call) (c : Call) → GoodLimits l → l.calls_can ≡ can_do → all_readable cs ≡ true →
-    says_in (left (new_words (word_limits l)) cs) c ≡ answer l (ran l new_house cs) c
-left_says l cs c g t r =
-    let k = left_holds l cs g t r in
-    says_house (left (new_words (word_limits l)) cs) c k.sound ∙ ap₂ (λ (x : AllLimits) (h : House). answer x h c) k.limits k.is
-
-pub refusal_keeps : RefusalKeeps whole the_keeper
+pub refusal_keeps : RefusalKeeps thin the_keeper
 unfolding RefusalKeeps
 refusal_keeps = λ l cs c g t r away.
     let same = left-turned l cs c g t (readable-front cs (c ∷ []) r) in

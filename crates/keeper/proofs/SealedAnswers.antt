@@ -3,7 +3,7 @@ use Rattle.std.proofs.Common.{◌≡◌, ℕ, Bool, true, false, List, [], ◌�
 use Rattle.std.proofs.lemmas.Bool.{and_parts, and_from}
 use Rattle.auction.specs.Bids.{pick}
 use Rattle.auction.specs.House.{Call, Answer, Limits, House, after, answers, new_house}
-use Rattle.auction.specs.Promise.{Keeper, Memory, readable, all_readable, told_by, whole, others_on, but_others, answers_but, Right, Sealed}
+use Rattle.auction.specs.Promise.{Keeper, Memory, readable, all_readable, told_by, thin, others_on, but_others, answers_but, Right, Sealed}
 use Rattle.auction.proofs.Sealed.{sealed}
 use Rattle.keeper.specs.Keeping.{the_keeper}
 use Rattle.keeper.specs.Promises.{told_but, SealedAnswers}
@@ -32,7 +32,7 @@ readable_but k b (c ∷ cs) r = let reads = and_parts (readable c) _ r in go (ot
     go true one more = more
     go false one more = and_from (readable c) _ one more
 
-pub sealed_answers : SealedAnswers whole the_keeper
+pub sealed_answers : SealedAnswers thin the_keeper
 unfolding SealedAnswers Right Sealed
 sealed_answers = λ l cs k b g t r open-still.
     but_same k b the_keeper (the_keeper.opened l) l new_house cs (right l cs g t r) ∙ sealed l cs k b open-still ∙ sym (right l (but_others k b cs) g t (readable_but k b cs r))

@@ -1,5 +1,5 @@
 -- Bids in the place of bids: the same calls are taken as before, and what was bid first leaves no trace. Assumes nothing.
-use Rattle.std.proofs.Common.{◌≡◌, ℕ, ◌+◌, ◌%◌, ◌<◌, true, List, length, get_or, sym, ap, ◌∙◌, subst, ap₂, arith}
+use Rattle.std.proofs.Common.{◌≡◌, ℕ, ◌+◌, ◌<◌, true, List, length, get_or, sym, ap, ◌∙◌, subst, ap₂, arith}
 use Rattle.auction.specs.Bids.{Bids, pick}
 use Rattle.auction.specs.House.{House, Lot, bids, good_call, the_lot, turned_by, turned, Limits as AllLimits}
 use Rattle.auction.proofs.HouseLaws.{pick_zero}
@@ -17,9 +17,9 @@ use Rattle.keeper.specs.Promises.{NoTrace}
 use Rattle.keeper.proofs.OneCall.{RowAsked, row_asked, turned_house, next-taken}
 
 -- bids are taken on what a house says of their lot, and of nothing else
-bids-turned : (l : AllLimits) (h g : House) (k b : ℕ) (bs : Bids) → h.now ≡ g.now → length h.lots ≡ length g.lots → (the_lot h k).pieces ≡ (the_lot g k).pieces → (the_lot h k).until ≡ (the_lot g k).until
+bids_turned : (l : AllLimits) (h g : House) (k b : ℕ) (bs : Bids) → h.now ≡ g.now → length h.lots ≡ length g.lots → (the_lot h k).pieces ≡ (the_lot g k).pieces → (the_lot h k).until ≡ (the_lot g k).until
     → turned l h (bids k b bs) ≡ turned l g (bids k b bs)
-bids-turned l h g k b bs time count pieces until =
+bids_turned l h g k b bs time count pieces until =
     let same : turned_by l h (bids k b bs) ≡ turned_by l g (bids k b bs) = cc (time, count, pieces, until) in
     ap (λ (n : ℕ). pick (good_call l (bids k b bs)) n 2) same
 
@@ -57,8 +57,8 @@ module _ (m : List ℕ) (k b : ℕ) (xs : Bids) (house : is_house m ≡ true) (a
   still_turned ys =
       let w : List ℕ = with_row (limits_in m) m k b xs in
       ap (λ (l : Limits). turned (limits_of can_do l) (house_in w) (bids k b ys)) limits_stay
-      ∙ bids-turned (limits_now m) (house_in w) (house_in m) k b ys (low now_at (omega arith)) (many_lots w ∙ low count_at (omega arith) ∙ sym (many_lots m))
-      (ap (λ (o : Lot). o.pieces) (lot_there w k lot_still) ∙ ap (λ (x : ℕ). x % 2147483648) (low (lot_at k) (omega (arith, there))) ∙ sym (ap (λ (o : Lot). o.pieces) (lot_there m k a.lot)))
+      ∙ bids_turned (limits_now m) (house_in w) (house_in m) k b ys (low now_at (omega arith)) (many_lots w ∙ low count_at (omega arith) ∙ sym (many_lots m))
+      (ap (λ (o : Lot). o.pieces) (lot_there w k lot_still) ∙ low (lot_at k) (omega (arith, there)) ∙ sym (ap (λ (o : Lot). o.pieces) (lot_there m k a.lot)))
       (ap (λ (o : Lot). o.until) (lot_there w k lot_still) ∙ low (lot_at k + 1) (omega (arith, there)) ∙ sym (ap (λ (o : Lot). o.until) (lot_there m k a.lot)))
 
 -- bids that could be taken are taken after others too, and the words are then as if those had never been

@@ -1,9 +1,8 @@
 -- What else the keeper is held to. Each is a statement, a type whose proof is owed. Assumes nothing.
 use Rattle.std.specs.Prelude.{◌≡◌, ℕ, ◌<◌, Bool, true, ◌≢◌, List, [], ◌∷◌, ◌++◌}
 use Rattle.auction.specs.Bids.{Bids, pick}
-use Rattle.auction.specs.House.{Call, bids, my_bids, result, Answer, refused, two, list, Limits, the_lot, ran, new_house}
+use Rattle.auction.specs.House.{Call, bids, Answer, refused, Limits, the_lot, ran, new_house}
 use Rattle.auction.specs.Promise.{Keeper, Memory, GoodLimits, all_readable, left_by, told_by, others_on, but_others}
-use Rattle.auction.specs.Answers.{but_own, NoGain, Fair}
 use Rattle.ledger.specs.Houses.{is_house}
 use Rattle.keeper.specs.Keeping.{turned_in, next_in, says_in}
 
@@ -22,21 +21,6 @@ unfoldable pub SealedAnswers : (ℕ → Bool) → Keeper → Type 0
 SealedAnswers can r =
     (l : Limits) (cs : List Call) (k b : ℕ) → GoodLimits l → l.calls_can ≡ can → all_readable cs ≡ true → (ran l new_house cs).now < (the_lot (ran l new_house cs) k).until →
     told_but k b r (r.opened l) cs ≡ told_by r (r.opened l) (but_others k b cs)
-
--- TRUTHFULNESS, over what is answered: whatever else is called, and however often and whenever a bidder bids on a lot, nothing that it is answered there is better than what it is answered after
--- its true bids, all told: what is got, less what is paid
-unfoldable pub TruthInAnswers : (ℕ → Bool) → Keeper → Type 0
-TruthInAnswers can r =
-    (l : Limits) (cs ds : List Call) (k b c p d q : ℕ) (truth lie : Bids) → GoodLimits l → l.calls_can ≡ can → all_readable cs ≡ true → all_readable ds ≡ true → but_own k b cs ≡ but_own k b ds →
-    r.says (left_by r (r.opened l) cs) (my_bids k b) ≡ list truth → r.says (left_by r (r.opened l) ds) (my_bids k b) ≡ list lie →
-    r.says (left_by r (r.opened l) cs) (result k b) ≡ two c p → r.says (left_by r (r.opened l) ds) (result k b) ≡ two d q →
-    NoGain truth lie c p d q
-
--- and what is answered is fair: no more is paid than was bid, nothing for nothing, and to who bids the truth what is got is worth what is paid
-unfoldable pub FairAnswers : (ℕ → Bool) → Keeper → Type 0
-FairAnswers can r =
-    (l : Limits) (cs : List Call) (k b c p : ℕ) (bs : Bids) → GoodLimits l → l.calls_can ≡ can → all_readable cs ≡ true →
-    r.says (left_by r (r.opened l) cs) (my_bids k b) ≡ list bs → r.says (left_by r (r.opened l) cs) (result k b) ≡ two c p → Fair bs c p
 
 -- what lies behind a house's words stays as it is, and has no part in the answers, whatever the call
 unfoldable pub BehindStays : Type 0

@@ -3,12 +3,12 @@ use Rattle.std.proofs.Common.{◌≡◌, ℕ, ◌+◌, ◌*◌, ◌<◌, ◌≤�
 use Rattle.std.proofs.lemmas.Bool.{cases_lt, cases_order}
 use Rattle.auction.specs.Bids.{Bids}
 use Rattle.ledger.specs.declared.layout.Limits.{Limits}
-use Rattle.ledger.specs.Layout.{HasRow, now_at, count_at, row_at, row_size, house_words}
+use Rattle.ledger.specs.Layout.{HasRow, count_at, row_at, row_size, house_words}
 use Rattle.ledger.specs.Words.{with_row, row_over, row_words}
 use Rattle.ledger.specs.Houses.{house_in}
 use Rattle.ledger.specs.Laws.{OpenedIsNew, WordsPromised, InRow, NoWordTwice, RowWritten, RowsComeBack, BidsLand, LotsLand, TimeLands}
 use Rattle.ledger.proofs.Parts.{over_over}
-use Rattle.ledger.proofs.Places.{row_within, row_before, same_number, lot-within}
+use Rattle.ledger.proofs.Places.{row_within, row_before, same_number, lot_within}
 use Rattle.ledger.proofs.RowWords.{length-row_words}
 use Rattle.ledger.proofs.RowDeeds.{length-with_row, with_row_below, with_row_above, row_there, other_row, row_house, row_sound}
 use Rattle.ledger.proofs.TimeDeeds.{now_house, now_sound}
@@ -36,7 +36,7 @@ no_word_twice = λ l i.
     record {
       lots = λ k j one other. omega arith;
       rows = rows_apart l i;
-      lot_row = λ k j c h one other. omega (arith, lot-within l k j c h);
+      lot_row = λ k j c h one other. omega (arith, lot_within l k j c h);
       header_lot = λ k low one. omega arith;
       header_row = λ k b low one. omega arith;
       lot_tables = λ k h one. omega arith;
@@ -62,16 +62,12 @@ rows_come_back = row_written
 
 pub bids_land : BidsLand
 unfolding BidsLand
-bids_land = λ m k b bs can s hk open-yet hb few w. (row_house m k b bs s.house hk hb few w can, row_sound m k b bs s.house hk hb few w s open-yet)
+bids_land = λ m k b bs can s hk hb few w. (row_house m k b bs s.house hk hb few w can, row_sound m k b bs s.house hk hb few w s)
 
 pub lots_land : LotsLand
 unfolding LotsLand
-lots_land = λ m n t can s more hn ht. (lot_house m (get_or m count_at 0) n t s refl more hn can, lot_sound m (get_or m count_at 0) n t s refl more hn ht)
-
-now_later : (m : List ℕ) (n : ℕ) → get_or m now_at 0 ≤ (house_in m).now + n
-unfolding house_in
-now_later m n = omega arith
+lots_land = λ m n t can s more hn ht. (lot_house m (get_or m count_at 0) n t s refl more can, lot_sound m (get_or m count_at 0) n t s refl more hn ht)
 
 pub time_lands : TimeLands
 unfolding TimeLands
-time_lands = λ m n can s early. (now_house m ((house_in m).now + n) s.house, now_sound m ((house_in m).now + n) s.house early (now_later m n) s)
+time_lands = λ m n can s early. (now_house m ((house_in m).now + n) s.house, now_sound m ((house_in m).now + n) s.house early s)

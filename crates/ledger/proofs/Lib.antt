@@ -2,7 +2,6 @@ pub mod Parts
 pub mod Places
 pub mod RowWords
 pub mod Houses
-pub mod Kept
 pub mod Sounds
 pub mod RowDeeds
 pub mod TimeDeeds
@@ -10,5 +9,3 @@ pub mod LotDeeds
 pub mod Opened
 pub mod LedgerLaws
 pub mod Found
-pub mod TablesClear
-pub mod ResultDeeds

@@ -1,20 +1,19 @@
 -- One lot more: what that does to the house that the words hold, and that it leaves them sound. Assumes nothing.
-use Rattle.std.proofs.Common.{◌≡◌, ℕ, zero, suc, ◌+◌, ◌%◌, ◌<◌, ◌≤◌, Bool, true, ◌≢◌, List, [], ◌∷◌, ◌++◌, map, length, get_or, drop, set, sym, refl, ap, ◌∙◌, subst, ap₂, ⊎_elim, mod-eq_of_lt, arith}
+use Rattle.std.proofs.Common.{◌≡◌, ℕ, zero, suc, ◌+◌, ◌<◌, ◌≤◌, Bool, ◌≢◌, List, [], ◌∷◌, ◌++◌, map, length, get_or, drop, set, sym, refl, ap, ◌∙◌, subst, ap₂, ⊎_elim, arith}
 use Rattle.std.specs.List.{range_with_len}
 use Rattle.std.proofs.lemmas.List.FromFn.{map-range_with_len_more}
 use Rattle.std.proofs.lemmas.List.{length-set, get_or-set_same, get_or-set_other, length-take, get_or-take, get_or-drop}
-use Rattle.std.proofs.lemmas.Bool.{cases_eq, leb-true}
+use Rattle.std.proofs.lemmas.Bool.{cases_eq}
 use Rattle.auction.specs.Bids.{Bids}
 use Rattle.auction.specs.House.{House, Lot, nobody, changed, opens}
 use Rattle.ledger.specs.Layout.{now_at, count_at, lot_at, row_at, row_size, house_words}
 use Rattle.ledger.specs.Words.{bids_in, row_part, bids_at}
-use Rattle.ledger.specs.Results.{is_kept}
 use Rattle.ledger.specs.Houses.{limits_in, limits_of, header_in, made_in, lot_in, house_in, Sound, with_lot}
 use Rattle.ledger.proofs.Parts.{same_part, map_same}
-use Rattle.ledger.proofs.Places.{past, row_within, row_before, lot-within, first_row}
+use Rattle.ledger.proofs.Places.{past, row_within, row_before, lot_within, first_row}
 use Rattle.ledger.proofs.RowWords.{bids_zero}
 use Rattle.ledger.proofs.Houses.{FitsFacts, house_facts, same_limits, same_header, house_by}
-use Rattle.ledger.proofs.Sounds.{same_lot, results_stay, sound_by}
+use Rattle.ledger.proofs.Sounds.{same_lot, sound_by}
 
 -- nobody has bid
 nobody_is : (f : ℕ → Bids) (n a : ℕ) → ((b : ℕ) → b < a + n → f b ≡ []) → map f (range_with_len a n) ≡ nobody n
@@ -62,17 +61,17 @@ module _ (m : List ℕ) (n p t : ℕ) (s : Sound m) (here : get_or m count_at 0 
   lot_facts : FitsFacts (header_in m) (length m)
   lot_facts = house_facts m s.house
 
-  fits-lot : lot_at n + 1 < length m
-  fits-lot = omega (arith, lot_facts.room)
+  fits_lot : lot_at n + 1 < length m
+  fits_lot = omega (arith, lot_facts.room)
 
   lot_limits : limits_in (with_lot m n p t) ≡ limits_in m
-  lot_limits = same_limits m (with_lot m n p t) (lot_below m n p t fits-lot 0 (omega arith)) (lot_below m n p t fits-lot 1 (omega arith)) (lot_below m n p t fits-lot 2 (omega arith))
+  lot_limits = same_limits m (with_lot m n p t) (lot_below m n p t fits_lot 0 (omega arith)) (lot_below m n p t fits_lot 1 (omega arith)) (lot_below m n p t fits_lot 2 (omega arith))
 
   -- a row has none of the words that are written
   lot_rows : (k b : ℕ) → row_part (limits_in m) (with_lot m n p t) k b ≡ row_part (limits_in m) m k b
   lot_rows k b =
-      let low = lot-within (limits_in m) n k b more in
-      same_part (with_lot m n p t) m (row_at (limits_in m) k b) (row_size (limits_in m)) (length-with_lot m n p t fits-lot) (λ i from to. lot_above m n p t fits-lot i (omega arith))
+      let low = lot_within (limits_in m) n k b more in
+      same_part (with_lot m n p t) m (row_at (limits_in m) k b) (row_size (limits_in m)) (length-with_lot m n p t fits_lot) (λ i from to. lot_above m n p t fits_lot i (omega arith))
 
   -- nor is anything in the new lot's rows yet
   none_yet : (b : ℕ) → b < get_or m 1 0 → bids_at (limits_in m) m n b ≡ []
@@ -85,54 +84,46 @@ module _ (m : List ℕ) (n p t : ℕ) (s : Sound m) (here : get_or m count_at 0 
       bids_zero (row_part l m n b)
       (λ i hi. get_or-take (row_size l) (drop (row_at l n b) m) i 0 (omega arith) ∙ get_or-drop (row_at l n b) m i 0 ∙ zero_rest (row_at l n b + i) (omega arith) (omega arith))
 
-  new_lot : p < 2147483648 → lot_in (limits_in m) (with_lot m n p t) n ≡ record { pieces = p; until = t; made = nobody (get_or m 1 0) }
-  new_lot hp =
+  new_lot : lot_in (limits_in m) (with_lot m n p t) n ≡ record { pieces = p; until = t; made = nobody (get_or m 1 0) }
+  new_lot =
       let l = limits_in m in
       let v : List ℕ = with_lot m n p t in
-      let pieces : get_or v (lot_at n) 0 % 2147483648 ≡ p = ap (λ x. x % 2147483648) (lot_pieces m n p t fits-lot) ∙ mod-eq_of_lt hp in
-      let until = lot_until m n p t fits-lot in
+      let pieces = lot_pieces m n p t fits_lot in
+      let until = lot_until m n p t fits_lot in
       let made : made_in l v n ≡ nobody l.bidders =
       map_same (bids_at l m n) (bids_at l v n) l.bidders (λ b h. ap bids_in (lot_rows n b)) ∙ nobody_is (bids_at l m n) l.bidders 0 (λ b h. none_yet b (omega arith)) in
       cc
 
   old_lot : (k : ℕ) → k < n → lot_in (limits_in m) (with_lot m n p t) k ≡ lot_in (limits_in m) m k
   old_lot k h =
-      same_lot (limits_in m) m (with_lot m n p t) k (lot_between m n p t fits-lot (lot_at k) (omega arith) (omega arith)) (lot_between m n p t fits-lot (lot_at k + 1) (omega arith) (omega arith))
+      same_lot (limits_in m) m (with_lot m n p t) k (lot_between m n p t fits_lot (lot_at k) (omega arith) (omega arith)) (lot_between m n p t fits_lot (lot_at k + 1) (omega arith) (omega arith))
       (λ b hb. lot_rows k b)
 
-  pub lot_house : p < 2147483648 → (can : ℕ → Bool) → house_in (with_lot m n p t) ≡ changed (limits_of can (limits_in m)) (house_in m) (opens p t)
-  lot_house hp can =
+  pub lot_house : (can : ℕ → Bool) → house_in (with_lot m n p t) ≡ changed (limits_of can (limits_in m)) (house_in m) (opens p t)
+  lot_house can =
       let l = limits_in m in
       let v : List ℕ = with_lot m n p t in
       let new : Lot = record { pieces = p; until = t; made = nobody (get_or m 1 0) } in
-      house_by v l (get_or m now_at 0) (n + 1) lot_limits (lot_below m n p t fits-lot now_at (omega arith)) (lot_count m n p t fits-lot)
+      house_by v l (get_or m now_at 0) (n + 1) lot_limits (lot_below m n p t fits_lot now_at (omega arith)) (lot_count m n p t fits_lot)
       ∙ ap {B = House} (λ x. record { now = get_or m now_at 0; lots = x })
-      (map-range_with_len_more (lot_in l v) 0 n n (omega arith) ∙ ap₂ (λ xs x. xs ++ x ∷ []) (map_same (lot_in l m) (lot_in l v) n old_lot) (new_lot hp))
+      (map-range_with_len_more (lot_in l v) 0 n n (omega arith) ∙ ap₂ (λ xs x. xs ++ x ∷ []) (map_same (lot_in l m) (lot_in l v) n old_lot) new_lot)
       ∙ ap {B = House} (λ (h : House). record { now = h.now; lots = h.lots ++ new ∷ [] }) (sym (house_by m l (get_or m now_at 0) n refl refl here))
 
-  pub lot_sound : p < 2147483648 → t < 4294967296 → Sound (with_lot m n p t)
+  pub lot_sound : p < 4294967296 → t < 4294967296 → Sound (with_lot m n p t)
   lot_sound hp ht =
       let l = limits_in m in
       let v : List ℕ = with_lot m n p t in
       let few = lot_facts.good.0 in
       let lots : (i : ℕ) → lot_at n ≤ i → i < lot_at l.lots → get_or m i 0 ≡ 0 = subst (λ x. (i : ℕ) → lot_at x ≤ i → i < lot_at l.lots → get_or m i 0 ≡ 0) here s.lots in
       let rest : (i : ℕ) → row_at l n 0 ≤ i → i < house_words l → get_or m i 0 ≡ 0 = subst (λ x. (i : ℕ) → row_at l x 0 ≤ i → i < house_words l → get_or m i 0 ≡ 0) here s.rest in
-      let low = lot-within l n (n + 1) 0 more in
+      let low = lot_within l n (n + 1) 0 more in
       let row = row_before l n 0 (n + 1) 0 (omega (arith, past n (n + 1) l.bidders (omega arith), lot_facts.good.1)) in
-      sound_by v (record { limits = l; now = get_or m now_at 0; count = n + 1 }) (same_header m v (get_or m now_at 0) (n + 1) lot_limits (lot_below m n p t fits-lot now_at (omega arith)) (lot_count m n p t fits-lot))
-      (subst (FitsFacts (record { limits = l; now = get_or m now_at 0; count = n + 1 })) (sym (length-with_lot m n p t fits-lot)) (record { good = lot_facts.good; room = lot_facts.room; few = omega arith; early = lot_facts.early }))
-      (λ i. ⊎_elim (λ e. subst (λ x. x < 4294967296) (sym (ap (λ j. get_or v j 0) e ∙ lot_count m n p t fits-lot)) (omega arith))
-      (λ a. ⊎_elim (λ e. subst (λ x. x < 4294967296) (sym (ap (λ j. get_or v j 0) e ∙ lot_pieces m n p t fits-lot)) (omega arith))
-      (λ b. ⊎_elim (λ e. subst (λ x. x < 4294967296) (sym (ap (λ j. get_or v j 0) e ∙ lot_until m n p t fits-lot)) ht)
-      (λ c. subst (λ x. x < 4294967296) (sym (lot_other m n p t fits-lot i b c a)) (s.words i))
+      sound_by v (record { limits = l; now = get_or m now_at 0; count = n + 1 }) (same_header m v (get_or m now_at 0) (n + 1) lot_limits (lot_below m n p t fits_lot now_at (omega arith)) (lot_count m n p t fits_lot))
+      (subst (FitsFacts (record { limits = l; now = get_or m now_at 0; count = n + 1 })) (sym (length-with_lot m n p t fits_lot)) (record { good = lot_facts.good; room = lot_facts.room; few = omega arith; early = lot_facts.early }))
+      (λ i. ⊎_elim (λ e. subst (λ x. x < 4294967296) (sym (ap (λ j. get_or v j 0) e ∙ lot_count m n p t fits_lot)) (omega arith))
+      (λ a. ⊎_elim (λ e. subst (λ x. x < 4294967296) (sym (ap (λ j. get_or v j 0) e ∙ lot_pieces m n p t fits_lot)) hp)
+      (λ b. ⊎_elim (λ e. subst (λ x. x < 4294967296) (sym (ap (λ j. get_or v j 0) e ∙ lot_until m n p t fits_lot)) ht)
+      (λ c. subst (λ x. x < 4294967296) (sym (lot_other m n p t fits_lot i b c a)) (s.words i))
       (cases_eq i (lot_at n + 1))) (cases_eq i (lot_at n))) (cases_eq i count_at))
-      (λ i from to. lot_above m n p t fits-lot i (omega arith) ∙ lots i (omega arith) to)
-      (λ i from to. lot_above m n p t fits-lot i (omega arith) ∙ rest i (omega arith) to)
-      (λ k h kept. ⊎_elim (λ e. absurd (omega (arith, leb-true 2147483648 _ (subst (λ x. is_kept v x ≡ true) e kept), lot_pieces m n p t fits-lot)))
-      (λ ne. results_stay m v k lot_limits (omega (arith, lot_below m n p t fits-lot now_at (omega arith)))
-      (record {
-        len = length-with_lot m n p t fits-lot;
-        lot = λ i from to. lot_between m n p t fits-lot i (omega arith) (omega arith);
-        rows = λ b i hb from to. lot_above m n p t fits-lot i (omega (arith, lot-within l n k b more));
-      }) s (omega arith) kept)
-      (cases_eq k n))
+      (λ i from to. lot_above m n p t fits_lot i (omega arith) ∙ lots i (omega arith) to)
+      (λ i from to. lot_above m n p t fits_lot i (omega arith) ∙ rest i (omega arith) to)

@@ -58,7 +58,7 @@ pub opened_sound : (l : Limits) (m : List ℕ) → Good l → house_words l ≤ 
 unfolding opened
 opened_sound l m g room below =
     sound_by (opened l m) (record { limits = l; now = 0; count = 0 }) refl (record { good = g; room = subst (λ n. house_words l ≤ n) (sym (length-opened l m room)) room; few = omega arith; early = omega arith })
-    (below_opened l m g below) (λ i from to. empty l m i (omega arith) (omega arith)) (λ i from to. empty l m i (omega arith) to) (λ k h. absurd (omega arith))
+    (below_opened l m g below) (λ i from to. empty l m i (omega arith) (omega arith)) (λ i from to. empty l m i (omega arith) to)
 
 pub new_house-opened : (l : Limits) (m : List ℕ) → Good l → house_words l ≤ length m → ((i : ℕ) → get_or m i 0 < 4294967296) → NewHouse l m (opened l m)
 unfolding opened house_in

@@ -1,9 +1,9 @@
 -- Places in the lent memory: what lies within what, and what lies apart. One lemma, `past`, carries the products. Assumes nothing.
-use Rattle.std.proofs.Common.{◌≡◌, ℕ, ◌+◌, ◌*◌, ◌/◌, ◌%◌, ◌^◌, ◌<◌, ◌≤◌, min, Decides, sym, ap, ◌∙◌, mul-le-mul_right, suc-mul, arith, pow_mono}
+use Rattle.std.proofs.Common.{◌≡◌, ℕ, ◌+◌, ◌*◌, ◌/◌, ◌%◌, ◌<◌, ◌≤◌, Decides, sym, ap, ◌∙◌, mul-le-mul_right, suc-mul, arith}
 use Rattle.std.proofs.lemmas.Nat.{mul-le, div-mul-add, mod-mul-add}
 use Rattle.std.proofs.lemmas.Bool.Decides.{nat_tests}
 use Rattle.ledger.specs.declared.layout.Limits.{Limits}
-use Rattle.ledger.specs.Layout.{Good, good, lot_at, row_at, row_size, tables_at, tables_used, house_words}
+use Rattle.ledger.specs.Layout.{Good, good, lot_at, row_at, row_size, tables_at}
 
 -- before a later row there is room for an earlier one
 pub past : (q r e : ℕ) → q < r → q * e + e ≤ r * e
@@ -25,13 +25,6 @@ pub row_within : (l : Limits) (k b : ℕ) → k < l.lots → b < l.bidders → r
 row_within l k b hk hb =
     omega (arith, past (k * l.bidders + b) (l.lots * l.bidders) l.each (row_number k b l.lots l.bidders hk hb))
 
--- a table for each bidder, and three more, of any number of pieces: the tables that are used are within the house
-pub table_bound : (n : ℕ) → 2 * 2 ^ min n 16 ≤ 131072
-table_bound n = let few : min n 16 ≤ 16 = omega arith in omega (arith, pow_mono few)
-
-pub tables_within : (l : Limits) (n : ℕ) → tables_at l + tables_used l n ≤ house_words l
-tables_within l n = omega (arith, mul-le (l.bidders + 3) (2 * 2 ^ min n 16) (l.bidders + 3) 131072 (omega arith) (table_bound n))
-
 -- of two rows one ends where the other begins, or before
 pub row_before : (l : Limits) (k b j c : ℕ) → k * l.bidders + b < j * l.bidders + c → row_at l k b + row_size l ≤ row_at l j c
 row_before l k b j c h = omega (arith, past (k * l.bidders + b) (j * l.bidders + c) l.each h)
@@ -42,8 +35,8 @@ same_number k b j c m hb hc e =
     (sym (div-mul-add k m b hb) ∙ ap (λ n. n / m) e ∙ div-mul-add j m c hc, sym (mod-mul-add k m b hb) ∙ ap (λ n. n % m) e ∙ mod-mul-add j m c hc)
 
 -- a lot ends where the rows begin, or before
-pub lot-within : (l : Limits) (k j c : ℕ) → k < l.lots → lot_at k + 8 ≤ row_at l j c
-lot-within l k j c h = omega arith
+pub lot_within : (l : Limits) (k j c : ℕ) → k < l.lots → lot_at k + 8 ≤ row_at l j c
+lot_within l k j c h = omega arith
 
 -- of the bidders' rows on one lot the first begins first
 pub first_row : (l : Limits) (k b : ℕ) → row_at l k 0 ≤ row_at l k b

@@ -1,18 +1,17 @@
 -- A row of bids is written: what that does to the house that the words hold, and that it leaves them sound. Assumes nothing.
-use Rattle.std.proofs.Common.{◌≡◌, ℕ, ◌+◌, ◌-◌, ◌*◌, ◌<◌, ◌≤◌, Bool, true, leb, ◌≢◌, List, length, get_or, set, sym, ap, ◌∙◌, subst, ⊎_elim, arith}
-use Rattle.std.proofs.lemmas.Bool.{cases_eq, cases_lt, cases_order}
+use Rattle.std.proofs.Common.{◌≡◌, ℕ, ◌+◌, ◌-◌, ◌*◌, ◌<◌, ◌≤◌, Bool, true, ◌≢◌, List, length, get_or, set, sym, ap, ◌∙◌, subst, ⊎_elim, arith}
+use Rattle.std.proofs.lemmas.Bool.{cases_lt, cases_order}
 use Rattle.auction.specs.Bids.{Bids}
 use Rattle.auction.specs.House.{House, Lot, changed, bids}
 use Rattle.ledger.specs.declared.layout.Limits.{Limits}
 use Rattle.ledger.specs.Layout.{now_at, count_at, lot_at, row_at, row_size, house_words}
 use Rattle.ledger.specs.Words.{bids_in, row_words, row_part, bids_at, row_over, with_row, writable}
-use Rattle.ledger.specs.Houses.{limits_in, limits_of, header_in, lot_words, made_in, lot_in, house_in, is_house, Sound}
-use Rattle.ledger.specs.Results.{is_kept}
+use Rattle.ledger.specs.Houses.{limits_in, limits_of, header_in, made_in, lot_in, house_in, is_house, Sound}
 use Rattle.ledger.proofs.Parts.{same_part, length_over, over_below, over_above, over_within, part_over, map_change}
-use Rattle.ledger.proofs.Places.{past, row_number, row_within, row_before, same_number, lot-within}
+use Rattle.ledger.proofs.Places.{past, row_number, row_within, row_before, same_number, lot_within}
 use Rattle.ledger.proofs.RowWords.{length-row_words, read_back, row_below}
 use Rattle.ledger.proofs.Houses.{FitsFacts, house_facts, lot_there, same_limits, same_header, house_by}
-use Rattle.ledger.proofs.Sounds.{SameWords, same_lot, results_stay, sound_by}
+use Rattle.ledger.proofs.Sounds.{same_lot, sound_by}
 
 -- a row of bids is written
 module _ (l : Limits) (m : List ℕ) (k b : ℕ) (bs : Bids) (hk : k < l.lots) (hb : b < l.bidders) (room : house_words l ≤ length m) (few : length bs ≤ l.each) where
@@ -43,35 +42,23 @@ module _ (l : Limits) (m : List ℕ) (k b : ℕ) (bs : Bids) (hk : k < l.lots) (
   unfolding row_over
   row_there w = ap bids_in (part_over m (row_words (row_size l) bs) (row_at l k b) (row_size l) fits_row whole) ∙ read_back (row_size l) bs w
 
-  pub other_word : (j c i : ℕ) → j * l.bidders + c ≢ k * l.bidders + b → row_at l j c ≤ i → i < row_at l j c + row_size l → get_or (with_row l m k b bs) i 0 ≡ get_or m i 0
-  other_word j c i ne from to =
-      ⊎_elim (λ e. absurd (ne e))
-      (⊎_elim (λ before. with_row_below i (omega (arith, row_before l j c k b before))) (λ after. with_row_above i (omega (arith, row_before l k b j c after))))
-      (cases_order (j * l.bidders + c) (k * l.bidders + b))
-
   pub other_row : (j c : ℕ) → j * l.bidders + c ≢ k * l.bidders + b → row_part l (with_row l m k b bs) j c ≡ row_part l m j c
-  other_row j c ne = same_part (with_row l m k b bs) m (row_at l j c) (row_size l) length-with_row (λ i from to. other_word j c i ne from to)
-
-  -- of another lot no word is
-  pub other_words : (j : ℕ) → j < l.lots → j ≢ k → SameWords l m (with_row l m k b bs) j
-  other_words j h ne =
-      let low = lot-within l j k b h in
-      record {
-        len = length-with_row;
-        lot = λ i from to. with_row_below i (omega arith);
-        rows = λ c i hc from to. other_word j c i (λ e. ne (same_number j c k b l.bidders hc hb e).0) from to;
-      }
+  other_row j c ne =
+      same_part (with_row l m k b bs) m (row_at l j c) (row_size l) length-with_row
+      (λ i from to. ⊎_elim (λ e. absurd (ne e))
+      (⊎_elim (λ before. with_row_below i (omega (arith, row_before l j c k b before))) (λ after. with_row_above i (omega (arith, row_before l k b j c after))))
+      (cases_order (j * l.bidders + c) (k * l.bidders + b)))
 
   -- no other lot is changed, and of this one nothing but the bidder's bids
   other_lot : (j : ℕ) → j < l.lots → j ≢ k → lot_in l (with_row l m k b bs) j ≡ lot_in l m j
   other_lot j h ne =
-      let low = lot-within l j k b h in
+      let low = lot_within l j k b h in
       same_lot l m (with_row l m k b bs) j (with_row_below _ (omega arith)) (with_row_below _ (omega arith))
       (λ c hc. other_row j c (λ e. ne (same_number j c k b l.bidders hc hb e).0))
 
   this_lot : writable bs ≡ true → lot_in l (with_row l m k b bs) k ≡ record { pieces = (lot_in l m k).pieces; until = (lot_in l m k).until; made = set (made_in l m k) b bs }
   this_lot w =
-      let low = lot-within l k k b hk in
+      let low = lot_within l k k b hk in
       let pieces : get_or (with_row l m k b bs) (lot_at k) 0 ≡ get_or m (lot_at k) 0 = with_row_below _ (omega arith) in
       let until : get_or (with_row l m k b bs) (lot_at k + 1) 0 ≡ get_or m (lot_at k + 1) 0 = with_row_below _ (omega arith) in
       let made : made_in l (with_row l m k b bs) k ≡ set (made_in l m k) b bs =
@@ -105,14 +92,8 @@ module _ (m : List ℕ) (k b : ℕ) (bs : Bids) (house : is_house m ≡ true) (h
       (map_change (lot_in l m) (lot_in l v) n k _ hk (this_lot l m k b bs there hb facts.room few w ∙ ap (λ (o : Lot). record { pieces = o.pieces; until = o.until; made = set o.made b bs }) (sym (lot_there m k hk)))
       (λ j hj ne. other_lot l m k b bs there hb facts.room few j (omega arith) ne))
 
-  -- nothing is kept of a lot that is open
-  none_kept : Sound m → get_or m now_at 0 < (lot_words m k).until → is_kept (with_row (limits_in m) m k b bs) k ≡ true → ⊥
-  none_kept s open-yet kept =
-      let same = with_row_below (limits_in m) m k b bs there hb facts.room few (lot_at k) (omega (arith, lot-within (limits_in m) k k b there)) in
-      omega (arith, (s.results k hk (ap (leb 2147483648) (sym same) ∙ kept)).closed)
-
-  pub row_sound : writable bs ≡ true → Sound m → get_or m now_at 0 < (lot_words m k).until → Sound (with_row (limits_in m) m k b bs)
-  row_sound w s open-yet =
+  pub row_sound : writable bs ≡ true → Sound m → Sound (with_row (limits_in m) m k b bs)
+  row_sound w s =
       let l = limits_in m in
       let v : List ℕ = with_row l m k b bs in
       let n : ℕ = get_or m count_at 0 in
@@ -128,6 +109,3 @@ module _ (m : List ℕ) (k b : ℕ) (bs : Bids) (house : is_house m ≡ true) (h
       (cases_lt i at))
       (λ i from to. with_row_below l m k b bs there hb facts.room few i (omega arith) ∙ s.lots i from to)
       (λ i from to. with_row_above l m k b bs there hb facts.room few i (omega arith) ∙ s.rest i from to)
-      (λ j hj kept. ⊎_elim (λ e. absurd (none_kept s open-yet (subst (λ x. is_kept v x ≡ true) e kept)))
-      (λ ne. results_stay m v j limits_stay (omega (arith, low_words now_at (omega arith))) (other_words l m k b bs there hb facts.room few j (omega (arith, facts.few)) ne) s hj kept)
-      (cases_eq j k))

@@ -1,5 +1,5 @@
 -- The time is set: what that does to the house that the words hold, and that it leaves them sound. Assumes nothing.
-use Rattle.std.proofs.Common.{◌≡◌, ℕ, ◌+◌, ◌<◌, ◌≤◌, true, ◌≢◌, List, length, get_or, sym, ap, ◌∙◌, subst, ⊎_elim, arith}
+use Rattle.std.proofs.Common.{◌≡◌, ℕ, ◌+◌, ◌<◌, true, ◌≢◌, List, length, get_or, sym, ap, ◌∙◌, subst, ⊎_elim, arith}
 use Rattle.std.proofs.lemmas.List.{length-set, get_or-set_same, get_or-set_other}
 use Rattle.std.proofs.lemmas.Bool.{cases_eq}
 use Rattle.auction.specs.House.{House}
@@ -7,7 +7,7 @@ use Rattle.ledger.specs.Layout.{now_at, count_at, lot_at, row_at, row_size}
 use Rattle.ledger.specs.Houses.{limits_in, header_in, lot_in, house_in, is_house, Sound, with_now}
 use Rattle.ledger.proofs.Parts.{same_part, map_same}
 use Rattle.ledger.proofs.Houses.{FitsFacts, house_facts, same_limits, same_header, house_by}
-use Rattle.ledger.proofs.Sounds.{same_lot, results_stay, sound_by}
+use Rattle.ledger.proofs.Sounds.{same_lot, sound_by}
 
 -- the time is set
 module _ (m : List ℕ) (t : ℕ) (house : is_house m ≡ true) where
@@ -34,8 +34,8 @@ module _ (m : List ℕ) (t : ℕ) (house : is_house m ≡ true) where
       (λ k h. same_lot l m v k (now_other (lot_at k) (λ e. omega arith)) (now_other (lot_at k + 1) (λ e. omega arith))
       (λ b hb. same_part v m (row_at l k b) (row_size l) (length-set m now_at t) (λ i from to. now_other i (λ e. omega arith)))))
 
-  pub now_sound : t < 16777216 → get_or m now_at 0 ≤ t → Sound m → Sound (with_now m t)
-  now_sound early later s =
+  pub now_sound : t < 16777216 → Sound m → Sound (with_now m t)
+  now_sound early s =
       let l = limits_in m in
       let v : List ℕ = with_now m t in
       sound_by v (record { limits = l; now = t; count = get_or m count_at 0 }) (same_header m v t (get_or m count_at 0) now_limits now_itself (now_other count_at (λ e. omega arith)))
@@ -44,5 +44,3 @@ module _ (m : List ℕ) (t : ℕ) (house : is_house m ≡ true) where
       (λ ne. subst (λ x. x < 4294967296) (sym (now_other i ne)) (s.words i)) (cases_eq i now_at))
       (λ i from to. now_other i (λ e. omega arith) ∙ s.lots i from to)
       (λ i from to. now_other i (λ e. omega arith) ∙ s.rest i from to)
-      (λ k h kept. results_stay m v k now_limits (omega (arith, now_itself))
-      (record { len = length-set m now_at t; lot = λ i from to. now_other i (λ e. omega arith); rows = λ b i hb from to. now_other i (λ e. omega arith) }) s h kept)

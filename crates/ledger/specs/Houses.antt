@@ -1,15 +1,13 @@
 -- What the words of the lent memory mean: the house that they hold, for any words, and what it is for words to be a house. Assumes nothing: these are definitions.
-use Rattle.std.specs.Prelude.{◌≡◌, ℕ, ◌+◌, ◌%◌, ◌<◌, ◌≤◌, Bool, true, ◌&&◌, List, [], map, length, nat_le, nat_lt, slice_index, slice_index_or, slice_set}
+use Rattle.std.specs.Prelude.{◌≡◌, ℕ, ◌+◌, ◌<◌, ◌≤◌, Bool, true, ◌&&◌, List, [], map, length, nat_le, nat_lt, slice_index, slice_index_or, slice_set}
 use Rattle.std.specs.List.{range_with_len}
-use Rattle.auction.specs.Bids.{Bids, all, choice, pays, pick, taken}
+use Rattle.auction.specs.Bids.{Bids}
 use Rattle.auction.specs.House.{House, Lot, the_lot, Limits as AllLimits}
 use Rattle.ledger.specs.declared.layout.Limits.{Limits}
 use Rattle.ledger.specs.declared.lots.Lot.{Lot as LotWords}
-use Rattle.ledger.specs.declared.results.Outcome.{Outcome}
 use Rattle.ledger.specs.declared.standing.Header.{Header}
-use Rattle.ledger.specs.Layout.{Good, good, now_at, count_at, lot_at, row_at, tables_at, tables_used, house_words}
-use Rattle.ledger.specs.Words.{bids_at, cleared}
-use Rattle.ledger.specs.Results.{is_kept, kept_outcome, all_kept, come_back}
+use Rattle.ledger.specs.Layout.{Good, good, now_at, count_at, lot_at, row_at, house_words}
+use Rattle.ledger.specs.Words.{bids_at}
 
 -- the limits, and the header, that the first words are
 abbrev pub limits_in : List ℕ → Limits
@@ -25,15 +23,15 @@ limits_of can l = record { calls_can = can; lots = l.lots; bidders = l.bidders; 
 abbrev pub limits_from : AllLimits → Limits
 limits_from l = record { lots = l.lots; bidders = l.bidders; each = l.each }
 
--- a lot's own words, of which the first has a mark above the pieces, and the lot with what each bidder has bid on it
+-- a lot's own words, and the lot with what each bidder has bid on it
 abbrev pub lot_words : List ℕ → ℕ → LotWords
-lot_words m k = record { pieces = slice_index m (lot_at k) % 2147483648; until = slice_index m (lot_at k + 1) }
+lot_words m k = record { pieces = slice_index m (lot_at k); until = slice_index m (lot_at k + 1) }
 
 abbrev pub made_in : Limits → List ℕ → ℕ → List Bids
 made_in l m k = map (bids_at l m k) (range_with_len 0 l.bidders)
 
 abbrev pub lot_in : Limits → List ℕ → ℕ → Lot
-lot_in l m k = record { pieces = slice_index m (lot_at k) % 2147483648; until = slice_index m (lot_at k + 1); made = made_in l m k }
+lot_in l m k = record { pieces = slice_index m (lot_at k); until = slice_index m (lot_at k + 1); made = made_in l m k }
 
 -- the house that words hold, whatever they are
 unfoldable pub house_in : List ℕ → House
@@ -61,22 +59,12 @@ pub record Stands (m : List ℕ) (h : Header) : Type 0 where
   pub bidders : (k : ℕ) → k < h.count → length (the_lot (house_in m) k).made ≡ h.limits.bidders
   pub bids : (k b : ℕ) → k < h.count → b < h.limits.bidders → slice_index_or (the_lot (house_in m) k).made b [] ≡ bids_at h.limits m k b
 
--- what comes out for a bidder of a lot of so many pieces, by these bids
-abbrev pub result_of : List Bids → ℕ → ℕ → Outcome
-result_of bss n b = record { place = slice_index (choice bss (all n)) b; price = (taken bss (all n) b).price; paid = pays bss (all n) b }
-
--- what is kept of a lot is its result, and it is closed
-pub record RightResult (m : List ℕ) (k : ℕ) : Type 0 where
-  pub closed : (lot_words m k).until ≤ slice_index m now_at
-  pub each : (b : ℕ) → b < (limits_in m).bidders → kept_outcome (limits_in m) m k b ≡ result_of (made_in (limits_in m) m k) (lot_words m k).pieces b
-
--- what words are between calls: a house, with nothing in the lots that are not open yet, in their rows and in the tables, and with no result kept but the right ones
+-- what words are between calls: a house, with nothing in the lots that are not open yet, in their rows and in the tables
 pub record Sound (m : List ℕ) : Type 0 where
   pub house : is_house m ≡ true
   pub words : (i : ℕ) → slice_index m i < 4294967296
   pub lots : (i : ℕ) → lot_at (slice_index m count_at) ≤ i → i < lot_at (slice_index m 0) → slice_index m i ≡ 0
   pub rest : (i : ℕ) → row_at (limits_in m) (slice_index m count_at) 0 ≤ i → i < house_words (limits_in m) → slice_index m i ≡ 0
-  pub results : (k : ℕ) → k < slice_index m count_at → is_kept m k ≡ true → RightResult m k
 
 -- the memory with another time, and with one lot more
 abbrev pub with_now : List ℕ → ℕ → List ℕ
@@ -84,20 +72,3 @@ with_now m t = slice_set m now_at t
 
 abbrev pub with_lot : List ℕ → ℕ → ℕ → ℕ → List ℕ
 with_lot m k n t = slice_set (slice_set (slice_set m (lot_at k) n) (lot_at k + 1) t) count_at (k + 1)
-
--- the memory once a lot was settled: the words of the tables that this uses are 0, and all others as they were
-abbrev pub with_clear_tables : List ℕ → ℕ → List ℕ
-with_clear_tables m k = cleared m (tables_at (limits_in m)) (tables_used (limits_in m) (lot_words m k).pieces)
-
--- the memory with what comes out for each bidder kept; it is read once more, and only if all of it comes back the lot is marked
-abbrev pub with_mark : List ℕ → ℕ → List ℕ
-with_mark m k = slice_set m (lot_at k) ((lot_words m k).pieces + 2147483648)
-
-unfoldable pub with_outcomes : Limits → List ℕ → ℕ → (ℕ → Outcome) → List ℕ
-with_outcomes l m k f =
-    let w : List ℕ = all_kept l m k l.bidders f in
-    pick (come_back l w k l.bidders f) (with_mark w k) w
-
--- the memory once a lot was settled and its result is kept
-abbrev pub with_result : List ℕ → ℕ → List ℕ
-with_result m k = with_outcomes (limits_in m) (with_clear_tables m k) k (result_of (made_in (limits_in m) m k) (lot_words m k).pieces)

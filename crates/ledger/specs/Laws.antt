@@ -1,12 +1,11 @@
 -- What the lent memory is held to, whatever is written. Each is a statement, a type whose proof is owed. Assumes nothing.
-use Rattle.std.specs.Prelude.{◌≡◌, ℕ, ◌+◌, ◌*◌, ◌<◌, ◌≤◌, Bool, true, false, List, length, slice_index}
+use Rattle.std.specs.Prelude.{◌≡◌, ℕ, ◌+◌, ◌*◌, ◌<◌, ◌≤◌, Bool, true, List, length, slice_index}
 use Rattle.auction.specs.Bids.{Bids}
 use Rattle.auction.specs.House.{bids, opens, ticks, changed, new_house}
 use Rattle.ledger.specs.declared.layout.Limits.{Limits}
-use Rattle.ledger.specs.Layout.{Good, HasRow, count_at, lot_at, now_at, row_at, row_size, tables_at, house_words}
+use Rattle.ledger.specs.Layout.{Good, HasRow, count_at, lot_at, row_at, row_size, tables_at, house_words}
 use Rattle.ledger.specs.Words.{row_part, bids_at, with_row, writable}
-use Rattle.ledger.specs.Houses.{limits_in, limits_of, lot_words, house_in, Sound, with_now, with_lot, with_result}
-use Rattle.ledger.specs.Results.{is_kept}
+use Rattle.ledger.specs.Houses.{limits_in, limits_of, house_in, Sound, with_now, with_lot}
 use Rattle.ledger.specs.Opening.{opened}
 
 -- WHAT WAS OPENED IS THE NEW HOUSE, with its limits, sound, and all behind it as it was
@@ -55,28 +54,18 @@ unfoldable pub RowsComeBack : Type 0
 RowsComeBack =
     (l : Limits) (m : List ℕ) (k b : ℕ) (bs : Bids) → HasRow l k b → house_words l ≤ length m → length bs ≤ l.each → RowWritten l m k b bs (with_row l m k b bs)
 
--- WHAT IS DONE TO THE WORDS IS DONE TO THE HOUSE: bids in the place of others on a lot that is open, one lot more, and time that goes by, for whatever calls it can do
+-- WHAT IS DONE TO THE WORDS IS DONE TO THE HOUSE: bids in the place of others, one lot more, and time that goes by, for whatever calls it can do
 unfoldable pub BidsLand : Type 0
 BidsLand =
-    (m : List ℕ) (k b : ℕ) (bs : Bids) (can : ℕ → Bool) → Sound m → k < slice_index m count_at → slice_index m now_at < (lot_words m k).until → b < (limits_in m).bidders → length bs ≤ (limits_in m).each → writable bs ≡ true →
+    (m : List ℕ) (k b : ℕ) (bs : Bids) (can : ℕ → Bool) → Sound m → k < slice_index m count_at → b < (limits_in m).bidders → length bs ≤ (limits_in m).each → writable bs ≡ true →
     (house_in (with_row (limits_in m) m k b bs) ≡ changed (limits_of can (limits_in m)) (house_in m) (bids k b bs)) × Sound (with_row (limits_in m) m k b bs)
 
 unfoldable pub LotsLand : Type 0
 LotsLand =
-    (m : List ℕ) (n t : ℕ) (can : ℕ → Bool) → Sound m → slice_index m count_at < (limits_in m).lots → n < 2147483648 → t < 4294967296 →
+    (m : List ℕ) (n t : ℕ) (can : ℕ → Bool) → Sound m → slice_index m count_at < (limits_in m).lots → n < 4294967296 → t < 4294967296 →
     (house_in (with_lot m (slice_index m count_at) n t) ≡ changed (limits_of can (limits_in m)) (house_in m) (opens n t)) × Sound (with_lot m (slice_index m count_at) n t)
 
 unfoldable pub TimeLands : Type 0
 TimeLands =
     (m : List ℕ) (n : ℕ) (can : ℕ → Bool) → Sound m → (house_in m).now + n < 16777216 →
     (house_in (with_now m ((house_in m).now + n)) ≡ changed (limits_of can (limits_in m)) (house_in m) (ticks n)) × Sound (with_now m ((house_in m).now + n))
-
--- A RESULT THAT IS KEPT CHANGES NOTHING in the house, and leaves the words sound; of a lot that is closed, and of which none is kept yet
-pub record ResultKept (m w : List ℕ) : Type 0 where
-  pub house : house_in w ≡ house_in m
-  pub sound : Sound w
-  pub limits : limits_in w ≡ limits_in m
-  pub len : length w ≡ length m
-
-unfoldable pub ResultsLand : Type 0
-ResultsLand = (m : List ℕ) (k : ℕ) → Sound m → k < slice_index m count_at → (lot_words m k).until ≤ slice_index m now_at → is_kept m k ≡ false → ResultKept m (with_result m k)

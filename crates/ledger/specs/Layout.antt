@@ -1,6 +1,6 @@
 -- Where in the lent memory each thing stands, from the limits alone. Assumes nothing: these are definitions.
 -- 8 words of header, 8 words a lot, then the rows of bids by lot and bidder, 2 words a bid, and the rest tables for the solver.
-use Rattle.std.specs.Prelude.{ℕ, ◌+◌, ◌*◌, ◌^◌, ◌<◌, ◌≤◌, min, Bool, ◌&&◌, Some, None, Option, nat_le}
+use Rattle.std.specs.Prelude.{ℕ, ◌+◌, ◌*◌, ◌<◌, ◌≤◌, Bool, ◌&&◌, Some, None, Option, nat_le}
 use Rattle.auction.specs.Bids.{pick}
 use Rattle.ledger.specs.declared.layout.Limits.{Limits}
 
@@ -41,10 +41,6 @@ tables_at l = lot_at l.lots + 2 * (l.lots * l.bidders * l.each)
 
 abbrev pub house_words : Limits → ℕ
 house_words l = tables_at l + 131072 * l.bidders + 524280
-
--- how many words of the tables the settling of a lot of so many pieces uses: for each bidder, and three more, a sum of two words for each set of its pieces; no bid names a piece beyond the sixteenth
-abbrev pub tables_used : Limits → ℕ → ℕ
-tables_used l n = (l.bidders + 3) * (2 * 2 ^ min n 16)
 
 abbrev pub needed : Limits → Option ℕ
 needed l = pick (good l) (Some (house_words l)) None

@@ -1,6 +1,5 @@
 pub mod Layout
 pub mod Words
-pub mod Results
 pub mod Houses
 pub mod Opening
 pub mod Laws

@@ -1,5 +1,5 @@
 // What the lent memory is held to: each function here carries one theorem on its contract, and computes nothing.
-ghost use Rattle.ledger.specs.Laws.{BidsLand, LotsLand, NoWordTwice, OpenedIsNew, ResultsLand, RowsComeBack, TimeLands, WordsPromised};
+ghost use Rattle.ledger.specs.Laws.{BidsLand, LotsLand, NoWordTwice, OpenedIsNew, RowsComeBack, TimeLands, WordsPromised};
 
 // What was opened is the new house, with its limits and nothing in it.
 pub fn what_was_opened_is_the_new_house()
@@ -34,9 +34,4 @@ pub fn lots_land_in_the_house()
 // Setting the time changes nothing else.
 pub fn time_lands_in_the_house()
     ensures { TimeLands }
-{}
-
-// Keeping a closed lot's result changes nothing in the house.
-pub fn results_land_in_the_house()
-    ensures { ResultsLand }
 {}

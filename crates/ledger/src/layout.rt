@@ -1,7 +1,7 @@
 // Where in the lent memory each thing stands: computed here, and nowhere else, from the limits alone.
 // 8 words of header, 8 words a lot, then the rows of bids by lot and bidder, 2 words a bid, and the rest tables for the solver.
-ghost use Rattle.std.specs.Prelude.{◌≡◌, ◌+◌, ◌*◌, ◌^◌, ◌≤◌, min};
-ghost use Rattle.ledger.specs.Layout.{Good, HasRow, good, house_words, lot_at, needed, row_at, row_size, tables_at, tables_used};
+ghost use Rattle.std.specs.Prelude.{◌≡◌};
+ghost use Rattle.ledger.specs.Layout.{Good, HasRow, good, house_words, lot_at, needed, row_at, row_size, tables_at};
 
 // The header's words: the limits, the time, and how many lots are open so far; three are spare.
 pub const LOTS: usize = 0;
@@ -55,19 +55,6 @@ pub fn lot_at(lot: u32) -> usize
     HEADER + LOT * lot as usize
 }
 
-// How many words a table has, a sum of two words for each set of so many pieces; no bid names a piece beyond the sixteenth.
-fn table_size(pieces: u32) -> usize
-    ensures words { result ≡ 2 * 2 ^ min pieces 16 }
-    ensures bound { result ≤ 131072 }
-{
-    2usize << pieces.min(16)
-}
-
-// This computes nothing: a call brings the law of its contract to the caller's proof.
-fn the_tables_are_within_the_house(limits: Limits, pieces: u32)
-    ensures { tables_at limits + tables_used limits pieces ≤ house_words limits }
-{}
-
 impl Limits {
     pub fn are_good(self) -> bool
         ensures { result ≡ good self }
@@ -89,16 +76,6 @@ impl Limits {
         ensures { result ≡ tables_at self }
     {
         self.rows_at() + BID * (self.lots as usize * self.bidders as usize * self.each as usize)
-    }
-
-    // How many words of the tables the settling of a lot of so many pieces uses: a table for each bidder, and three more.
-    pub fn tables_used(self, pieces: u32) -> usize
-        requires { Good self }
-        ensures words { result ≡ tables_used self pieces }
-        ensures within { tables_at self + result ≤ house_words self }
-    {
-        the_tables_are_within_the_house(self, pieces);
-        (self.bidders as usize + 3) * table_size(pieces)
     }
 
     // Where the row of a bidder's bids on a lot begins.

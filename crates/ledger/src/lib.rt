@@ -1,18 +1,17 @@
 // The house's whole state in one lent slice of words: header, lots, rows of bids, and tables for the solver.
+#![tactic(auto)]
+
 pub use finding::{Closing, closed_by_now, find_lot, find_place, next_closing};
 pub use layout::{Limits, words_needed};
 pub use lots::{Lot, add_lot, lot_of};
 pub use opening::{Trouble, open};
-pub use results::{Outcome, is_kept, keep_outcome, kept_outcome, mark_kept};
-pub use rows::{bids_of, replace_bids, rows_of};
+pub use rows::{bids_of, replace_bids};
 pub use standing::{Header, set_now, stands};
 
-mod clearing;
 pub mod finding;
 pub mod laws;
 pub mod layout;
 pub mod lots;
 pub mod opening;
-pub mod results;
 pub mod rows;
 pub mod standing;

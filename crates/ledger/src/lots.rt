@@ -5,9 +5,6 @@ ghost use Rattle.ledger.specs.Layout.{lot_at};
 
 use crate::layout::{COUNT, lot_at};
 
-// Above the pieces in a lot's first word there is the mark that its result is kept.
-pub const MARK: u32 = 2_147_483_648;
-
 // So many pieces, and open until a tick.
 #[derive(Clone, Copy, PartialEq, Eq)]
 pub struct Lot {
@@ -21,7 +18,7 @@ pub fn lot_of(memory: &[u32], lot: u32) -> Lot
 {
     let at = lot_at(lot);
     Lot {
-        pieces: memory[at] % MARK,
+        pieces: memory[at],
         until: memory[at + 1],
     }
 }

@@ -1,4 +1,6 @@
 // Lots read from text.
+#![tactic(auto)]
+
 ghost use Rattle.std.specs.Prelude.{◌≡◌, ◌-◌, min, length, take};
 ghost use Rattle.lotreading.specs.Lots.{lot_in};
 ghost use Rattle.lotreading.specs.Places.{column_behind, line_behind};

@@ -16,14 +16,14 @@ skip-none [] e = refl
 skip-none (b ∷ bs) e = sym (pick_no _ _ (sym e))
 
 -- a word, from its byte at place i on; what was read there is r
-module _ (ws : List ℕ) (i : ℕ) (bs : List ℕ) where
-  pub spelt-more : (r : Read (Unit {0})) → i < length ws → r ≡ byte (get_or ws i 0) bs → then r (λ _ left. spelt (drop (i + 1) ws) left) ≡ spelt (drop i ws) bs
+module _ {X : Type 0} (ws : List ℕ) (i : ℕ) (x : X) (bs : List ℕ) where
+  pub spelt-more : (r : Read (Unit {0})) → i < length ws → r ≡ byte (get_or ws i 0) bs → then r (λ _ left. spelt (drop (i + 1) ws) x left) ≡ spelt (drop i ws) x bs
   unfolding spelt
-  spelt-more r h e = ap (λ r. then r (λ _ left. spelt (drop (i + 1) ws) left)) e ∙ sym (at_drop_more (λ w. spelt w bs) ws i 0 h)
+  spelt-more r h e = ap (λ r. then r (λ _ left. spelt (drop (i + 1) ws) x left)) e ∙ sym (at_drop_more (λ w. spelt w x bs) ws i 0 h)
 
-  pub spelt_done : length ws ≤ i → got tt bs ≡ spelt (drop i ws) bs
+  pub spelt_done : length ws ≤ i → got x bs ≡ spelt (drop i ws) x bs
   unfolding spelt
-  spelt_done h = sym (at_drop_all (λ w. spelt w bs) ws i h)
+  spelt_done h = sym (at_drop_all (λ w. spelt w x bs) ws i h)
 
 -- something is there, so that its kind of thing begins
 pub begun : {A X : Type 0} (o : Option A) (a : A) (x y : X) → Some a ≡ o → y ≡ given o x (λ _. y)

@@ -33,7 +33,7 @@ likely bs =
     (pick (at 108 bs) (Some Lot) None)))))
 
 abbrev pub kind : List ℕ → Read Kind
-kind bs = given (likely bs) (stuck bs) (λ k. then (spelt (words k) bs) (λ _ left. got k left))
+kind bs = given (likely bs) (stuck bs) (λ k. spelt (words k) k bs)
 
 -- has it one number only?
 abbrev pub single : Kind → Bool

@@ -82,10 +82,7 @@ impl<'a> Reader<'a> {
         ensures { seen result self.new ≡ kind_in (ahead self.old) }
     {
         match self.likely() {
-            Some(kind) => {
-                self.spelt(kind.words())?;
-                Ok(kind)
-            }
+            Some(kind) => self.spelt(kind.words(), kind),
             None => Err(Unreadable),
         }
     }

@@ -1,11 +1,12 @@
 // Calls read from lines of text.
+#![tactic(auto)]
+
 ghost use Rattle.std.specs.Prelude.{◌≡◌};
 ghost use Rattle.reading.specs.Calls.{line_in};
 ghost use Rattle.reading.specs.Lines.{silent};
 ghost use Rattle.wire.specs.Meaning.{read_as};
 
-pub use fields::larger;
-pub use reader::{Reader, Unreadable};
+use reader::{Reader, Unreadable};
 use wire::Call;
 
 mod calls;

@@ -3,6 +3,8 @@ ghost use Rattle.std.specs.Prelude.{◌≡◌, ◌<◌, length, drop, nat_eq};
 ghost use Rattle.reading.specs.Lines.{blank, byte as byte_in, end, gap, next, skip, spelt, starts};
 ghost use Rattle.reading.specs.Readers.{ahead, seen};
 
+use crate::kinds::Kind;
+
 // The line can't be read any further: the reader stands at the byte that does not fit.
 #[derive(Clone, Copy)]
 pub struct Unreadable;
@@ -80,14 +82,14 @@ impl<'a> Reader<'a> {
         Ok(())
     }
 
-    // Just this text.
-    pub fn spelt(&mut self, text: &[u8]) -> Result<(), Unreadable>
-        ensures { seen result self.new ≡ spelt text.now (ahead self.old) }
+    // Just this text, which stands for that kind of call.
+    pub fn spelt(&mut self, text: &[u8], kind: Kind) -> Result<Kind, Unreadable>
+        ensures { seen result self.new ≡ spelt text.now kind (ahead self.old) }
     {
         for byte in text {
             self.byte(*byte)?;
         }
-        Ok(())
+        Ok(kind)
     }
 
     // Nothing but blanks, to the line's end.

@@ -1,17 +1,17 @@
 -- What the checks say of a memory and a call: why the call is turned away, or that it is taken, with what its deed asks for. Assumes nothing: these are definitions.
 use Rattle.std.specs.Prelude.{◌≡◌, ℕ, ◌+◌, ◌<◌, ◌≤◌, List, length, slice_index}
-use Rattle.auction.specs.Bids.{Bids, all, best, choice, pays, pick}
-use Rattle.auction.specs.House.{Answer, Call, opens, bids, ticks, my_bids, result, brings, lot_is, refused, number, two, list, paid_by}
-use Rattle.keeper.specs.Keeping.{kept_brings, kept_result, next_in, place_in, says_in, turned_in}
-use Rattle.ledger.specs.Houses.{Stands, limits_in, lot_words, made_in, with_lot, with_now, with_result}
-use Rattle.ledger.specs.Layout.{Good, HasRow, house_words, lot_at, now_at}
-use Rattle.ledger.specs.Results.{is_kept}
+use Rattle.auction.specs.Bids.{Bids}
+use Rattle.auction.specs.House.{Call, opens, bids, ticks, my_bids, lot_is, refused, number, two, list}
+use Rattle.bundles.specs.Offers.{all_meant}
+use Rattle.bundles.specs.Rows.{held}
+use Rattle.keeper.specs.Keeping.{next_in, place_in, says_in, turned_in}
+use Rattle.ledger.specs.Houses.{Stands, limits_in, with_lot, with_now}
+use Rattle.ledger.specs.Layout.{HasRow, house_words, lot_at, now_at}
 use Rattle.ledger.specs.Words.{bids_at, with_row}
-use Rattle.ledger.specs.declared.layout.Limits.{Limits}
 use Rattle.ledger.specs.declared.lots.Lot.{Lot}
 use Rattle.ledger.specs.declared.standing.Header.{Header}
 use Rattle.wire.specs.Refusals.{refusal_number}
-use Rattle.rules.specs.declared.settling.Closed.{Closed}
+use Rattle.rules.specs.declared.bidding.Taking.{Taking}
 use Rattle.rules.specs.declared.turned.Turned.{Turned}
 
 -- the call is turned away, by this refusal and at this place: that is what the house says, and its words stay as they are
@@ -31,15 +31,16 @@ pub record Opens (m : List ℕ) (pieces until : ℕ) (h : Header) : Type 0 where
   pub said : says_in m (opens pieces until) ≡ number h.count
   pub after : next_in m (opens pieces until) ≡ with_lot m h.count pieces until
 
--- a bidder's bids on a lot can be replaced by these, in a house with these limits
-pub record Takes (m : List ℕ) (k b : ℕ) (bs : Bids) (l : Limits) : Type 0 where
+-- a bidder's bids on a lot can be replaced by these, which are the row's
+pub record Takes (m : List ℕ) (k b : ℕ) (bs : Bids) (t : Taking) : Type 0 where
   pub taken : turned_in m (bids k b bs) ≡ 0
-  pub limits : l ≡ limits_in m
-  pub place : HasRow l k b
-  pub room : house_words l ≤ length m
-  pub few : length bs ≤ l.each
+  pub limits : t.limits ≡ limits_in m
+  pub place : HasRow t.limits k b
+  pub room : house_words t.limits ≤ length m
+  pub made : all_meant (held t.row) ≡ bs
+  pub few : length (held t.row) ≤ t.limits.each
   pub said : says_in m (bids k b bs) ≡ number (length bs)
-  pub after : next_in m (bids k b bs) ≡ with_row l m k b bs
+  pub after : next_in m (bids k b bs) ≡ with_row t.limits m k b bs
 
 -- so many ticks can go by, and then it is this late
 pub record Ticks (m : List ℕ) (n : ℕ) (t : ℕ) : Type 0 where
@@ -63,42 +64,3 @@ pub record Tells (m : List ℕ) (k : ℕ) (l : Lot) : Type 0 where
   pub taken : turned_in m (lot_is k) ≡ 0
   pub said : says_in m (lot_is k) ≡ two l.pieces l.until
   pub after : next_in m (lot_is k) ≡ m
-
--- a lot is there and closed, in a house with this header; and what is handed on of it
-pub record ClosedLot (m : List ℕ) (h : Header) (k : ℕ) (c : Closed) : Type 0 where
-  pub stands : Stands m h
-  pub there : k < h.count
-  pub late : (lot_words m k).until ≤ h.now
-  pub limits : c.limits ≡ h.limits
-  pub pieces : c.pieces ≡ (lot_words m k).pieces
-
--- what is told of a closed lot of so many pieces, by what is kept of it, or else by the bids that the words hold: to a bidder which of its bids is taken, and what it pays; and the sums bid by the
--- winners, and paid
-abbrev pub told_result : Limits → List ℕ → ℕ → ℕ → ℕ → Answer
-told_result l m k n b = pick (is_kept m k) (kept_result l m k b) (two (slice_index (choice (made_in l m k) (all n)) b) (pays (made_in l m k) (all n) b))
-
-abbrev pub told_brings : Limits → List ℕ → ℕ → ℕ → Answer
-told_brings l m k n = pick (is_kept m k) (kept_brings l m k) (two (best (made_in l m k) (all n)) (paid_by l.bidders (made_in l m k) (all n)))
-
--- a closed lot's result can be told to a bidder, and is kept then
-pub record Results (m : List ℕ) (k b : ℕ) (c : Closed) : Type 0 where
-  pub taken : turned_in m (result k b) ≡ 0
-  pub limits : c.limits ≡ limits_in m
-  pub good : Good c.limits
-  pub lot : k < c.limits.lots
-  pub bidder : b < c.limits.bidders
-  pub room : house_words c.limits ≤ length m
-  pub pieces : c.pieces ≡ (lot_words m k).pieces
-  pub said : says_in m (result k b) ≡ told_result c.limits m k c.pieces b
-  pub after : next_in m (result k b) ≡ pick (is_kept m k) m (with_result m k)
-
--- what a closed lot brings can be told, and its result is kept then
-pub record Brings (m : List ℕ) (k : ℕ) (c : Closed) : Type 0 where
-  pub taken : turned_in m (brings k) ≡ 0
-  pub limits : c.limits ≡ limits_in m
-  pub good : Good c.limits
-  pub lot : k < c.limits.lots
-  pub room : house_words c.limits ≤ length m
-  pub pieces : c.pieces ≡ (lot_words m k).pieces
-  pub said : says_in m (brings k) ≡ told_brings c.limits m k c.pieces
-  pub after : next_in m (brings k) ≡ pick (is_kept m k) m (with_result m k)

@@ -4,14 +4,22 @@ ghost use Rattle.rules.specs.Checks.{Refuses, Takes};
 ghost use Rattle.std.specs.Result.{MatchResult};
 ghost use Rattle.wire.specs.Offers.{offers};
 
-use crate::fine::{all_fine, all_fit};
+use crate::fine::{all_fit, row_of};
 use crate::turned::{NO_HOUSE, NO_SUCH_LOT, NOT_IN_LOT, OUT_OF_RANGE, Turned, WRONG_TIME};
+use bundles::Row;
 use ledger::{Limits, lot_of, stands};
 use wire::Bids;
 
-// The limits, which say where the bids belong.
-pub fn may_bid(memory: &[u32], lot: u32, bidder: u32, bids: Bids<'_>) -> Result<Limits, Turned>
-    ensures { MatchResult result (λ l. Takes memory.now lot bidder (offers bids.entry) l) (λ t. Refuses memory.now (bids_on lot bidder (offers bids.entry)) t) }
+// The bids that are taken, and the limits that say where they belong.
+#[derive(Clone, Copy)]
+pub struct Taking {
+    pub limits: Limits,
+    pub row: Row,
+}
+
+// The bids, decoded, which take the place of those before.
+pub fn may_bid(memory: &[u32], lot: u32, bidder: u32, bids: Bids<'_>) -> Result<Taking, Turned>
+    ensures { MatchResult result (λ t. Takes memory.now lot bidder (offers bids.entry) t) (λ t. Refuses memory.now (bids_on lot bidder (offers bids.entry)) t) }
 {
     let Some(header) = stands(memory) else {
         return Err(NO_HOUSE);
@@ -19,9 +27,9 @@ pub fn may_bid(memory: &[u32], lot: u32, bidder: u32, bids: Bids<'_>) -> Result<
     if bidder >= header.limits.bidders {
         return Err(OUT_OF_RANGE);
     }
-    if !all_fine(bids, header.limits.each) {
+    let Some(row) = row_of(bids, header.limits.each) else {
         return Err(OUT_OF_RANGE);
-    }
+    };
     if lot >= header.count {
         return Err(NO_SUCH_LOT);
     }
@@ -29,8 +37,11 @@ pub fn may_bid(memory: &[u32], lot: u32, bidder: u32, bids: Bids<'_>) -> Result<
     if header.now >= asked.until {
         return Err(WRONG_TIME);
     }
-    if !all_fit(bids, asked.pieces) {
+    if !all_fit(row.bids(), asked.pieces) {
         return Err(NOT_IN_LOT);
     }
-    Ok(header.limits)
+    Ok(Taking {
+        limits: header.limits,
+        row,
+    })
 }

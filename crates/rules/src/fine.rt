@@ -1,50 +1,54 @@
-// The bids of a call, looked at one by one in its bytes: in range, and within a lot.
-ghost use Rattle.std.specs.Prelude.{◌≡◌};
+// The bids of a call, looked at one by one: decoded, in range, and within a lot.
+ghost use Rattle.std.specs.Prelude.{◌≡◌, ◌≤◌, true, false, length, MatchOption};
 ghost use Rattle.auction.specs.Bids.{all, within};
 ghost use Rattle.auction.specs.House.{all_in, prices_fine};
-ghost use Rattle.bundles.specs.Offers.{meant};
-ghost use Rattle.rules.specs.Fine.{all_fine, fine};
+ghost use Rattle.bundles.specs.Offers.{all_meant, meant};
+ghost use Rattle.bundles.specs.Rows.{held};
+ghost use Rattle.rules.specs.Fine.{Holds, all_fine, fine};
 ghost use Rattle.wire.specs.Offers.{offers};
 
 use crate::bounds::HIGHEST_PRICE;
-use bundles::Bid;
+use bundles::{Bid, Row};
 use wire::Bids;
 
-// Are there no more bids than so many, and is each in range?
-pub fn all_fine(bids: Bids<'_>, most: u32) -> bool
-    ensures { result ≡ all_fine most (offers bids.entry) }
+// The bids as a row, if there are no more than so many, which are sixteen at most, and each is in range.
+pub fn row_of(bids: Bids<'_>, most: u32) -> Option<Row>
+    requires { most ≤ 16 }
+    ensures { MatchOption result (all_fine most (offers bids.entry) ≡ false) (λ row. (all_fine most (offers bids.entry) ≡ true) × Holds row (offers bids.entry) × (length (held row) ≤ most)) }
 {
     if bids.len() > most as usize {
-        return false;
+        return None;
     }
-    each_is_fine(bids)
+    decoded(bids)
 }
 
 // Has a lot of so many pieces all that these bids ask for?
-pub fn all_fit(bids: Bids<'_>, pieces: u32) -> bool
-    ensures { result ≡ all_in (offers bids.entry) pieces }
+pub fn all_fit(bids: &[Bid], pieces: u32) -> bool
+    ensures { result ≡ all_in (all_meant bids.now) pieces }
 {
-    let mut i = 0;
-    while let Some(bid) = bids.get(i) {
-        if !fits(bid, pieces) {
+    for bid in bids {
+        if !fits(*bid, pieces) {
             return false;
         }
-        i += 1;
     }
     true
 }
 
-fn each_is_fine(bids: Bids<'_>) -> bool
-    ensures { result ≡ prices_fine (offers bids.entry) }
+// The bids as a row, if each is in range.
+fn decoded(bids: Bids<'_>) -> Option<Row>
+    requires { length (offers bids) ≤ 16 }
+    ensures { MatchOption result (prices_fine (offers bids.entry) ≡ false) (λ row. (prices_fine (offers bids.entry) ≡ true) × Holds row (offers bids.entry)) }
 {
+    let mut row = Row::new();
     let mut i = 0;
     while let Some(bid) = bids.get(i) {
         if !is_fine(bid) {
-            return false;
+            return None;
         }
+        row.push(bid);
         i += 1;
     }
-    true
+    Some(row)
 }
 
 // Is the price in range, and the set not empty?

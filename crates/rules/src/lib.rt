@@ -1,18 +1,18 @@
 // For each call the checks, in the order of the refusals: each reads the lent memory and hands on what the deed needs, or says why the call is turned away.
-pub use bidding::may_bid;
+#![tactic(auto)]
+
+pub use bidding::{Taking, may_bid};
 pub use opening::may_open;
-pub use settling::{Closed, may_tell_result, may_tell_what_it_brings};
 pub use showing::may_show;
 pub use telling::may_tell;
 pub use ticking::may_tick;
 pub use turned::Turned;
-pub use unable::unreadable;
+pub use unable::{not_yet, unreadable};
 
 pub mod bidding;
 mod bounds;
 mod fine;
 pub mod opening;
-pub mod settling;
 pub mod showing;
 pub mod telling;
 pub mod ticking;

@@ -1,20 +1,32 @@
-// Bytes that are no call are always turned away.
-ghost use Rattle.auction.specs.House.{garbled};
+// Calls that are always turned away: bytes that are no call, and calls that this stage can't do.
+ghost use Rattle.std.specs.Prelude.{ℕ};
+ghost use Rattle.auction.specs.House.{brings, garbled, result};
 ghost use Rattle.rules.specs.Checks.{Refuses};
 
-use crate::turned::{NO_HOUSE, Turned};
+use crate::turned::{NO_HOUSE, OUT_OF_RANGE, Turned};
 use ledger::stands;
 use wire::Refusal;
 
 // Bytes that cease to be a call at a place.
 pub fn unreadable(memory: &[u32], place: usize) -> Turned
-    ensures { Refuses memory.now (garbled place) result }
+    ensures* { λ t. ⌜ Refuses memory.now (garbled place) t ⌝ }
 {
     match stands(memory) {
         Some(_) => Turned {
             refusal: Refusal::Unreadable,
             place: place as u64,
         },
+        None => NO_HOUSE,
+    }
+}
+
+// A lot's result, or what it brings, of whichever lot and bidder.
+pub fn not_yet(memory: &[u32]) -> Turned
+    ensures* result { λ t. ⌜ ((k b : ℕ) → Refuses memory.now (result k b) t) ⌝ }
+    ensures* brings { λ t. ⌜ ((k : ℕ) → Refuses memory.now (brings k) t) ⌝ }
+{
+    match stands(memory) {
+        Some(_) => OUT_OF_RANGE,
         None => NO_HOUSE,
     }
 }

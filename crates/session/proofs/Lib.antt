@@ -1,2 +1,0 @@
-pub mod Results
-pub mod KeptSteps

@@ -1,2 +1,1 @@
 pub mod Deeds
-pub mod Outcomes

@@ -1,17 +1,17 @@
 // What each call does, once its check hands on what it needs.
-ghost use Rattle.std.specs.Prelude.{◌≡◌};
+ghost use Rattle.std.specs.Prelude.{◌≡◌, ◌≤◌, length};
+ghost use Rattle.bundles.specs.Offers.{all_meant};
+ghost use Rattle.bundles.specs.Rows.{held};
+ghost use Rattle.ledger.specs.Layout.{HasRow, house_words};
+ghost use Rattle.ledger.specs.Words.{with_row};
 ghost use Rattle.auction.specs.House.{brings, lot_is, my_bids, opens, result, bids as bids_on, refused as turned_away, ticks as let_by};
 ghost use Rattle.wire.specs.Meaning.{said};
 ghost use Rattle.wire.specs.Refusals.{refusal_number};
 ghost use Rattle.session.specs.Deeds.{Done};
 ghost use Rattle.wire.specs.Offers.{offers};
 
-use crate::settling::{result_for, sums_of};
 use ledger::{Lot, add_lot, bids_of, replace_bids, set_now};
-use rules::{
-    Turned, may_bid, may_open, may_show, may_tell, may_tell_result, may_tell_what_it_brings,
-    may_tick,
-};
+use rules::{Taking, Turned, may_bid, may_open, may_show, may_tell, may_tick, not_yet};
 use wire::{Answer, Bids};
 
 pub fn open_lot(memory: &mut [u32], pieces: u32, until: u32) -> Answer
@@ -30,12 +30,23 @@ pub fn bid(memory: &mut [u32], lot: u32, bidder: u32, bids: Bids<'_>) -> Answer
     ensures* { λ r. ⌜ Done memory.old (bids_on lot bidder (offers bids.entry)) memory.new r ⌝ }
 {
     match may_bid(memory, lot, bidder, bids) {
-        Ok(limits) => {
-            replace_bids(memory, limits, lot, bidder, bids);
-            Answer::Number(bids.len() as u64)
+        Ok(taking) => {
+            let count = replace_row(memory, taking, lot, bidder);
+            Answer::Number(count)
         }
         Err(turned) => refused(turned),
     }
+}
+
+// Writes the row that is taken, and says how many bids it has.
+fn replace_row(memory: &mut [u32], taking: Taking, lot: u32, bidder: u32) -> u64
+    requires { (HasRow taking.limits lot bidder) × ((house_words taking.limits ≤ length memory.old) × (length (held taking.row) ≤ taking.limits.each)) }
+    ensures* words { λ _. ⌜ memory.new ≡ with_row taking.limits memory.old lot bidder (all_meant (held taking.row)) ⌝ }
+    ensures* count { λ r. ⌜ r ≡ length (all_meant (held taking.row)) ⌝ }
+{
+    let made = taking.row.bids();
+    replace_bids(memory, taking.limits, lot, bidder, made);
+    made.len() as u64
 }
 
 pub fn let_ticks_go_by(memory: &mut [u32], ticks: u32) -> Answer
@@ -68,22 +79,17 @@ pub fn tell_of_lot(memory: &[u32], lot: u32) -> Answer
     }
 }
 
-pub fn tell_result(memory: &mut [u32], lot: u32, bidder: u32) -> Answer
-    ensures* { λ r. ⌜ Done memory.old (result lot bidder) memory.new r ⌝ }
+// In this stage results are not told yet, nor what a lot brings.
+pub fn tell_result(memory: &[u32], lot: u32, bidder: u32) -> Answer
+    ensures* { λ r. ⌜ Done memory.now (result lot bidder) memory.now r ⌝ }
 {
-    match may_tell_result(memory, lot, bidder) {
-        Ok(closed) => result_for(memory, closed, lot, bidder),
-        Err(turned) => refused(turned),
-    }
+    refused(not_yet(memory))
 }
 
-pub fn tell_what_it_brings(memory: &mut [u32], lot: u32) -> Answer
-    ensures* { λ r. ⌜ Done memory.old (brings lot) memory.new r ⌝ }
+pub fn tell_what_it_brings(memory: &[u32], lot: u32) -> Answer
+    ensures* { λ r. ⌜ Done memory.now (brings lot) memory.now r ⌝ }
 {
-    match may_tell_what_it_brings(memory, lot) {
-        Ok(closed) => sums_of(memory, closed, lot),
-        Err(turned) => refused(turned),
-    }
+    refused(not_yet(memory))
 }
 
 pub fn refused(turned: Turned) -> Answer

@@ -1,4 +1,6 @@
 // The program `settle`: reads a lot from a file, or from standard input, and writes who gets what, and what is paid.
+#![tactic(auto)]
+
 use anyhow::anyhow;
 use ledger::Limits;
 use lotreading::{Lot, Misread, line_and_column, read_lot};

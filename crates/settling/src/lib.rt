@@ -1,4 +1,6 @@
 // Lots settled, whole: who gets what, what is paid, what a lot comes to and what it brings.
+#![tactic(auto)]
+
 pub use lots::{Settlement, settle};
 
 mod apart;

@@ -1,5 +1,7 @@
 // Winner determination and Clarke payments for a group of bidders: for each bidder from the last one on and each set of pieces the most that the bids of
 // these bidders come to, exactly, in lent memory; and from that who gets what, and what is paid.
+#![tactic(auto)]
+
 pub use choosing::Taken;
 pub use sharing::{Shares, share_out};
 pub use welfare::fill_tables;

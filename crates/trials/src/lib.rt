@@ -1,4 +1,6 @@
 // Examples of every layer, as tests; in a crate of their own because a crate with tests is proved twice.
+#![tactic(auto)]
+
 #[cfg(test)]
 mod answers;
 #[cfg(test)]
@@ -6,11 +8,7 @@ mod calls;
 #[cfg(test)]
 mod days;
 #[cfg(test)]
-mod desk;
-#[cfg(test)]
 mod finding;
-#[cfg(test)]
-mod large;
 #[cfg(test)]
 mod lines;
 #[cfg(test)]
@@ -18,10 +16,6 @@ mod memory;
 #[cfg(test)]
 mod refusals;
 #[cfg(test)]
-mod results;
-#[cfg(test)]
 mod rows;
 #[cfg(test)]
 mod sets;
-#[cfg(test)]
-mod small;

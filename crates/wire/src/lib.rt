@@ -1,4 +1,6 @@
 // Calls and answers, as values and as bytes.
+#![tactic(auto)]
+
 pub use answer::{Answer, Refusal};
 pub use bids::Bids;
 pub use call::Call;
