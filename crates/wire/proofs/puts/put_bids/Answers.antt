@@ -10,7 +10,7 @@ loop-i-init c = sym (put-none c.args.out.now c.args.at)
 
 pub loop-i-preserved : goal.loop-i-preserved
 loop-i-preserved c =
-    c.put-bid.ensures ∙ put-bids-more c.args.out.now c.loop-i.out c.args.at _ c.loop-i.i c.args.bids.now _ c.loop-i-test.true c.requires refl c.loop-i.invariant
+    c.put_bid.ensures ∙ put-bids-more c.args.out.now c.loop-i.out c.args.at _ c.loop-i.i c.args.bids.now _ c.loop-i-test.true c.requires refl c.loop-i.invariant
 
 pub returns : goal.returns
 returns c = rw (take_all c.loop-i.i c.args.bids.now c.loop-i-test.false) at c.loop-i.invariant

@@ -5,4 +5,4 @@ use Rattle.wire.proofs.puts.put_u16.Goals as goal
 
 pub returns : goal.returns
 returns c =
-    put_part c.args.at _ c.args.out.now _ _ (c.copy-from-slice.ensures.after ∙ c.to-le-bytes.ensures ∙ spelled_2 c.args.n) (omega (arith, length-spelled 2 c.args.n))
+    put_part c.args.at _ c.args.out.now _ _ (c.copy_from_slice.ensures.after ∙ c.to_le_bytes.ensures ∙ spelled_2 c.args.n) (omega (arith, length-spelled 2 c.args.n))

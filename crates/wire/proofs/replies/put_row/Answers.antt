@@ -14,5 +14,5 @@ returns c =
     let n : ℕ = length c.bids-bids.result.now in
     let many : n ≡ length (all_meant row) = ap length c.bids-bids.ensures ∙ sym same in
     let bs = bids_bytes (all_meant c.bids-bids.result.now) in
-    let whole = c.put-bids.ensures ∙ put-behind (set out 0 3) 1 2 n bs (omega (arith, length-set out 0 3, c.told-out)) refl ∙ put-behind out 0 1 3 (n ∷ bs) (omega (arith, c.told-out)) refl in
+    let whole = c.put_bids.ensures ∙ put-behind (set out 0 3) 1 2 n bs (omega (arith, length-set out 0 3, c.told-out)) refl ∙ put-behind out 0 1 3 (n ∷ bs) (omega (arith, c.told-out)) refl in
     record { bytes = rw (← many, ← c.bids-bids.ensures) whole; len = omega (arith, length-bids_bytes (all_meant row)) }

@@ -11,5 +11,5 @@ loop-i-init c = ap all_meant c.new-row.ensures
 
 pub loop-i-preserved : goal.loop-i-preserved
 loop-i-preserved c =
-    row_more (held c.loop-i.row) (held c.push.new.self) c.bid-at.result c.push.result c.loop-i.i c.args.bytes.now c.loop-i.invariant (omega arith) c.bid-at.ensures.here
+    row_more (held c.loop-i.row) (held c.push.new.self) c.bid_at.result c.push.result c.loop-i.i c.args.bytes.now c.loop-i.invariant (omega arith) c.bid_at.ensures.here
     c.push.ensures.pushed c.push.ensures.full

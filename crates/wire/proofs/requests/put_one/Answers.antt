@@ -7,4 +7,4 @@ pub returns-then-out-lt5 : goal.returns-then-out-lt5
 returns-then-out-lt5 c = (omega (arith, length-spelled 4 c.args.field), refl)
 
 pub returns : goal.returns
-returns c = single_written 4 c.args.out.now _ c.args.kind c.args.field c.put-u32.ensures 5 refl (omega arith)
+returns c = single_written 4 c.args.out.now _ c.args.kind c.args.field c.put_u32.ensures 5 refl (omega arith)

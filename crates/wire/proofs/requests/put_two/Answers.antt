@@ -12,4 +12,4 @@ returns-then-out-lt9 c =
 
 pub returns : goal.returns
 returns c =
-    pair_written 4 c.args.out.now _ c.args.kind c.args.first c.put-u32.ensures _ c.args.second 5 9 refl refl (omega arith) c.put-u32-2.ensures
+    pair_written 4 c.args.out.now _ c.args.kind c.args.first c.put_u32.ensures _ c.args.second 5 9 refl refl (omega arith) c.put_u32-2.ensures

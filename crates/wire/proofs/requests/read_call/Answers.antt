@@ -4,4 +4,4 @@ use Rattle.bundles.proofs.Picks.{pick_yes}
 use Rattle.wire.proofs.requests.read_call.Goals as goal
 
 pub returns : goal.returns
-returns c = c.whole-call.ensures ∙ sym (pick_yes _ _ (eq-eqb _ _ (c.if-request-size.false ∙ c.size-of-call-size.ensures)))
+returns c = c.whole_call.ensures ∙ sym (pick_yes _ _ (eq-eqb _ _ (c.if-request-size.false ∙ c.size_of_call-size.ensures)))
