@@ -5,9 +5,9 @@ ghost use Rattle.house.specs.Desk.{after_line, answered, body};
 use printing::Line;
 use reading::{is_silent, read_line};
 use session::answer;
-use std::fmt::Write;
+use std::alloc::AllocError;
+use std::io;
 use std::io::{BufRead, BufReader, Read};
-use std::{fmt, io};
 
 // Answers each line. The answers are written when no further line is at hand: at once to who types, in batches to who sends a file.
 pub fn serve<R: Read + Drop>(rt: &HostRuntime, memory: &mut [u32], input: R) -> io::Result<()> {
@@ -43,7 +43,7 @@ fn without_end(line: &[u8]) -> &[u8]
 }
 
 // Answers a line, if it is to be answered, with a line behind what was written so far.
-fn answer_line(memory: &mut [u32], line: &[u8], out: &mut String) -> fmt::Result
+fn answer_line(memory: &mut [u32], line: &[u8], out: &mut String) -> Result<(), AllocError>
     ensures words { memory.new ≡ after_line memory.old line.now }
     ensures text { OnOk result (string_bytes out.new ≡ string_bytes out.old ++ answered memory.old line.now) }
 {
