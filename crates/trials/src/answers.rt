@@ -135,14 +135,14 @@ fn the_session_answers_bytes_with_bytes(rt: HostRuntime) -> Result<(), Fail> {
         9
     );
     assert!(rt;
-        &out[0..10] == &[1, 0, 0, 0, 0, 0, 0, 0, 0, 9],
+        &out[0..10] == [1, 0, 0, 0, 0, 0, 0, 0, 0, 9].as_slice(),
         "lot 0, and what lies behind stays"
     );
     assert_eq!(rt; call(memory.as_mut_slice(), &[6, 0, 0, 0, 0], &mut out), 17);
-    assert!(rt; &out[0..17] == &[2, 2, 0, 0, 0, 0, 0, 0, 0, 10, 0, 0, 0, 0, 0, 0, 0]);
+    assert!(rt; &out[0..17] == [2, 2, 0, 0, 0, 0, 0, 0, 0, 10, 0, 0, 0, 0, 0, 0, 0].as_slice());
     assert_eq!(rt; call(memory.as_mut_slice(), &[6, 0, 0], &mut out), 17);
     assert!(rt;
-        &out[0..17] == &[0, 1, 0, 0, 0, 0, 0, 0, 0, 3, 0, 0, 0, 0, 0, 0, 0],
+        &out[0..17] == [0, 1, 0, 0, 0, 0, 0, 0, 0, 3, 0, 0, 0, 0, 0, 0, 0].as_slice(),
         "bytes that end too soon"
     );
     Ok(())

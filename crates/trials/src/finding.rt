@@ -47,7 +47,7 @@ fn lots(rt: &impl Abort, heap: Global, memory: &mut [u32]) -> Result<Vec<Pair>, 
         takes(rt, memory, line.as_bytes())?;
         all.push(Pair { until, number })?;
     }
-    all.sort();
+    all.sort()?;
     Ok(all)
 }
 

@@ -83,16 +83,23 @@ fn memory_that_is_no_house_refuses_by_three(rt: HostRuntime) -> Result<(), Fail>
 fn of_two_refusals_the_first(rt: HostRuntime) -> Result<(), Fail> {
     let mut memory = house(rt.alloc(), 1, 2, 1)?;
     let m = memory.as_mut_slice();
-    refuses(&rt, m, b"open 0 x", 1, 7).note("unreadable, and no pieces")?;
-    refuses(&rt, m, b"bid 9 2: 0 1", 2, 0).note("no such bidder, and no such lot")?;
+    // unreadable, and no pieces
+    refuses(&rt, m, b"open 0 x", 1, 7)?;
+    // no such bidder, and no such lot
+    refuses(&rt, m, b"bid 9 2: 0 1", 2, 0)?;
     refuses(&rt, m, b"my bids 9 2", 2, 0)?;
     takes(&rt, m, b"open 2 5")?;
     takes(&rt, m, b"ticks 5")?;
-    refuses(&rt, m, b"bid 9 0: 0 1", 4, 0).note("no such lot, and late")?;
-    refuses(&rt, m, b"bid 0 0: 2 1", 5, 0).note("closed, and a piece that it does not have")?;
-    refuses(&rt, m, b"bid 0 0: 2 0", 2, 0).note("no price, closed, and that piece")?;
-    refuses(&rt, m, b"open 1 5", 7, 1).note("not later, and no room")?;
-    refuses(&rt, m, b"open 17 5", 2, 0).note("too many pieces, and not later")
+    // no such lot, and late
+    refuses(&rt, m, b"bid 9 0: 0 1", 4, 0)?;
+    // closed, and a piece that it does not have
+    refuses(&rt, m, b"bid 0 0: 2 1", 5, 0)?;
+    // no price, closed, and that piece
+    refuses(&rt, m, b"bid 0 0: 2 0", 2, 0)?;
+    // not later, and no room
+    refuses(&rt, m, b"open 1 5", 7, 1)?;
+    // too many pieces, and not later
+    refuses(&rt, m, b"open 17 5", 2, 0)
 }
 
 #[test]
