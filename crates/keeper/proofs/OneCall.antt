@@ -5,7 +5,7 @@ use Rattle.std.proofs.lemmas.Bool.{cases_eq, and_parts, ltb-true, leb-true, eq-e
 use Rattle.auction.specs.Bids.{Bids}
 use Rattle.auction.specs.House.{Call, opens, bids, ticks, my_bids, result, brings, lot_is, garbled, House, call_number, prices_fine, good_fields, good_call, turned_by, turned, changed, after, answer, Limits as AllLimits}
 use Rattle.auction.specs.Promise.{field, readable}
-use Rattle.auction.proofs.HouseLaws.{pick_zero, bids_taken, after-taken, after_refused}
+use Rattle.auction.proofs.HouseLaws.{pick_zero, bids-taken, after-taken, after_refused}
 use Rattle.bundles.proofs.Picks.{pick_yes, pick_no}
 use Rattle.ledger.specs.Layout.{now_at, count_at, lot_at}
 use Rattle.ledger.specs.Words.{with_row, writable}
@@ -55,7 +55,7 @@ row_asked m k b bs e =
     let fields = and_parts (ltb b (get_or m 1 0)) _ (good-taken (limits_now m) (house_in m) (bids k b bs) e).0 in
     let these = and_parts (leb (length bs) (get_or m 2 0)) _ fields.1 in
     record {
-      lot = subst (λ x. k < x) (many_lots m) (bids_taken (limits_now m) (house_in m) k b bs e).0;
+      lot = subst (λ x. k < x) (many_lots m) (bids-taken (limits_now m) (house_in m) k b bs e).0;
       bidder = ltb-true _ _ fields.0;
       few = leb-true _ _ these.0;
       fine = these.1;

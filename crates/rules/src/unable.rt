@@ -1,6 +1,6 @@
 // Calls that are always turned away: bytes that are no call, and calls that this stage can't do.
 ghost use Rattle.std.specs.Prelude.{ℕ};
-ghost use Rattle.auction.specs.House.{brings, garbled, result};
+ghost use Rattle.auction.specs.House.{brings, garbled, result as result_for};
 ghost use Rattle.rules.specs.Checks.{Refuses};
 
 use crate::turned::{NO_HOUSE, OUT_OF_RANGE, Turned};
@@ -9,7 +9,7 @@ use wire::Refusal;
 
 // Bytes that cease to be a call at a place.
 pub fn unreadable(memory: &[u32], place: usize) -> Turned
-    ensures* { λ t. ⌜ Refuses memory.now (garbled place) t ⌝ }
+    ensures { Refuses memory.now (garbled place) result }
 {
     match stands(memory) {
         Some(_) => Turned {
@@ -22,8 +22,8 @@ pub fn unreadable(memory: &[u32], place: usize) -> Turned
 
 // A lot's result, or what it brings, of whichever lot and bidder.
 pub fn not_yet(memory: &[u32]) -> Turned
-    ensures* result { λ t. ⌜ ((k b : ℕ) → Refuses memory.now (result k b) t) ⌝ }
-    ensures* brings { λ t. ⌜ ((k : ℕ) → Refuses memory.now (brings k) t) ⌝ }
+    ensures result { (k b : ℕ) → Refuses memory.now (result_for k b) result }
+    ensures brings { (k : ℕ) → Refuses memory.now (brings k) result }
 {
     match stands(memory) {
         Some(_) => OUT_OF_RANGE,

@@ -3,4 +3,4 @@ use Rattle.daybook.proofs.houses.opens_anew.Goals as goal
 
 pub returns : goal.returns
 unfolding OpenedIsNew
-returns c = λ good room. c.what-was-opened-is-the-new-house.ensures c.args.limits c.args.words.now good room (λ i. (c.type-inv.words i).fits)
+returns c = λ good room. c.what_was_opened_is_the_new_house.ensures c.args.limits c.args.words.now good room (λ i. (c.type_inv.words i).fits)

@@ -10,6 +10,6 @@ pub returns : goal.returns
 returns c =
     let long = length-drop 2 c.args.bytes.now in
     let behind : take (length c.args.bytes.now - 2) (drop 2 c.args.bytes.now) ≡ drop 2 c.args.bytes.now = take_all _ _ (omega arith) in (
-      one_more c.args.bytes.now _ _ _ _ _ c.if-bytes-lt2.false (omega arith) behind c.min.ensures c.split-at.ensures.front c.split-at.ensures.back,
-      omega (arith, c.split-at.ensures.back_len, ap length behind),
+      one_more c.args.bytes.now _ _ _ _ _ c.if-bytes-lt2.false (omega arith) behind c.min.ensures c.split_at.ensures.front c.split_at.ensures.back,
+      omega (arith, c.split_at.ensures.back_len, ap length behind),
     )

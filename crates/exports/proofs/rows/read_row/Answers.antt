@@ -2,7 +2,7 @@ use Rattle.std.proofs.Common.{◌*◌, ◌++◌, length, ap, arith}
 use Rattle.bundles.specs.Offers.{all_meant}
 use Rattle.bundles.specs.Rows.{held}
 use Rattle.ledger.specs.Words.{bids_in}
-use Rattle.ledger.proofs.RowWords.{bids-end, bids-none, read_more, read_all}
+use Rattle.ledger.proofs.RowWords.{bids_end, bids_none, read_more, read_all}
 use Rattle.exports.proofs.rows.read_row.Goals as goal
 
 pub loop-i-init : goal.loop-i-init
@@ -14,7 +14,7 @@ loop-i-preserved c =
     (omega arith) (omega arith) c.if-words-i-eq0.false (omega arith) c.bid-at.ensures c.push.ensures.pushed c.push.ensures.full
 
 pub returns-then-words-i-eq0 : goal.returns-then-words-i-eq0
-returns-then-words-i-eq0 c = read_all _ (2 * c.loop-i.i) _ c.loop-i.invariant.0 (bids-end c.args.words.now (2 * c.loop-i.i) (omega arith) c.if-words-i-eq0.true)
+returns-then-words-i-eq0 c = read_all _ (2 * c.loop-i.i) _ c.loop-i.invariant.0 (bids_end c.args.words.now (2 * c.loop-i.i) (omega arith) c.if-words-i-eq0.true)
 
 pub returns : goal.returns
-returns c = read_all _ (2 * c.loop-i.i) _ c.loop-i.invariant.0 (bids-none c.args.words.now (2 * c.loop-i.i) (omega arith))
+returns c = read_all _ (2 * c.loop-i.i) _ c.loop-i.invariant.0 (bids_none c.args.words.now (2 * c.loop-i.i) (omega arith))

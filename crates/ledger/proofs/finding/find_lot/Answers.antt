@@ -4,12 +4,12 @@ use Rattle.ledger.specs.declared.lots.Lot.{Lot}
 use Rattle.ledger.specs.Finding.{lots_in}
 use Rattle.ledger.proofs.finding.find_lot.Goals as goal
 
-pub returns-in-default : goal.returns-in-default
-returns-in-default c = numbered_not (lots_in c.args.memory.now) c.args.number (omega (arith, ap length (no_lots c.args.memory.now c.in-default.ensures)))
+pub returns-in_default : goal.returns-in_default
+returns-in_default c = numbered_not (lots_in c.args.memory.now) c.args.number (omega (arith, ap length (no_lots c.args.memory.now c.in_default.ensures)))
 
 pub returns-then-number-header : goal.returns-then-number-header
 returns-then-number-header c =
-    ap {B = Option Lot} (λ (lot : Lot). Some lot) c.lot-of.ensures ∙ numbered_there c.args.memory.now c.in-Some.header c.in-Some.ensures c.args.number c.if-number-header.true
+    ap {B = Option Lot} (λ (lot : Lot). Some lot) c.lot_of.ensures ∙ numbered_there c.args.memory.now c.in-Some.header c.in-Some.ensures c.args.number c.if-number-header.true
 
 pub returns-else-number-header : goal.returns-else-number-header
 returns-else-number-header c =

@@ -8,7 +8,7 @@ unfolding bid_words
 loop-i-init c = refl
 
 pub loop-i-preserved : goal.loop-i-preserved
-loop-i-preserved c = c.put-bid.ensures ∙ write_more c.args.words.now c.loop-i.words c.args.bids.now c.loop-i.i _ _ _ c.loop-i-test.true c.requires refl refl c.loop-i.invariant
+loop-i-preserved c = c.put_bid.ensures ∙ write_more c.args.words.now c.loop-i.words c.args.bids.now c.loop-i.i _ _ _ c.loop-i-test.true c.requires refl refl c.loop-i.invariant
 
 pub returns : goal.returns
 returns c =

@@ -9,5 +9,5 @@ returns g c =
     λ plain ok.
     let took = g.W.Write.write_str_gives in
     let bids = c.args.bids.now in
-    let first : HasWritten took c.args.f.now (51 ∷ 32 ∷ (decimal (length bids) ++ (58 ∷ []))) c.write.new.self = c.in-ok-write.ensures.shows plain refl in
+    let first : HasWritten took c.args.f.now (51 ∷ 32 ∷ (decimal (length bids) ++ (58 ∷ []))) c.write.new.self = c.in_ok-write.ensures.shows plain refl in
     has_written_of_eq took c.args.f.now _ _ c.write-offers.new.f (list_text bids) (has_written_append took _ _ _ _ _ first (c.write-offers.ensures first.plain ok))

@@ -11,7 +11,7 @@ unfolding encode
 loop-bid-preserved g c = (
   (44 ∷ [], (refl, refl)),
   one_more g.W.Write.write_str_gives c.args.f.now c.loop-bid.f c.write.new.self c.loop-bid.separator.now c.args.bids.now c.loop-bid.bid-index _ c.loop-bid-test.true c.loop-bid.invariant.1
-      (λ plain. c.in-ok-write.ensures.shows plain refl),
+      (λ plain. c.in_ok-write.ensures.shows plain refl),
 )
 
 pub returns : goal.returns

@@ -8,5 +8,5 @@ pub returns-then-has : goal.returns-then-has
 returns-then-has g c =
     λ plain ok.
     let is = sym (c.has.ensures 16 (search rules)) ∙ c.if-has.true in
-    let text = encode_ascii _ c.digit-of.ensures.ascii ∙ ap (λ d. d ∷ []) c.digit-of.ensures.value ∙ sym (pick_yes _ [] is) in
-    has_written_of_eq g.W.Write.write_str_gives _ _ _ _ text (c.write-char.ensures.writes plain ok)
+    let text = encode_ascii _ c.digit_of.ensures.ascii ∙ ap (λ d. d ∷ []) c.digit_of.ensures.value ∙ sym (pick_yes _ [] is) in
+    has_written_of_eq g.W.Write.write_str_gives _ _ _ _ text (c.write_char.ensures.writes plain ok)

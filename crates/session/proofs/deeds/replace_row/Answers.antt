@@ -9,6 +9,6 @@ returns c =
     let made = c.bids-made.result.now in
     let same = ap all_meant c.bids-made.ensures in
     record {
-      words = c.replace-bids.ensures ∙ ap (with_row c.args.taking.limits c.args.memory.now c.args.lot c.args.bidder) same;
+      words = c.replace_bids.ensures ∙ ap (with_row c.args.taking.limits c.args.memory.now c.args.lot c.args.bidder) same;
       count = sym (length-map made meant) ∙ ap length same;
     }

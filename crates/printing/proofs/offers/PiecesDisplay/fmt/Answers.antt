@@ -17,7 +17,7 @@ loop-piece-preserved g c =
     let set = bits 16 c.args.self.now.0.mask in
     let was = c.loop-piece.invariant plain in
     has_written_of_eq g.W.Write.write_str_gives _ _ _ _ (set_text-more set c.loop-piece.piece (omega (arith, length-bits 16 c.args.self.now.0.mask)))
-    (has_written_append g.W.Write.write_str_gives _ _ _ _ _ was (c.in-ok-write-piece.ensures was.plain refl))
+    (has_written_append g.W.Write.write_str_gives _ _ _ _ _ was (c.in_ok-write_piece.ensures was.plain refl))
 
 pub returns-clause-writes : goal.returns-clause-writes
 returns-clause-writes g c =

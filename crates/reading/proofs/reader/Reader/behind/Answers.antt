@@ -4,6 +4,6 @@ use Rattle.reading.specs.Readers.{ahead}
 use Rattle.reading.proofs.Listing.{no_bids_behind}
 use Rattle.reading.proofs.reader.Reader.behind.Goals as goal
 
-pub returns-in-default : goal.returns-in-default
+pub returns-in_default : goal.returns-in_default
 unfolding bids_in
-returns-in-default c = record { bids = no_bids_behind c.args.kind (ahead c.args.self.now) c.in-default.not-Bid; bound = search rules }
+returns-in_default c = record { bids = no_bids_behind c.args.kind (ahead c.args.self.now) c.in_default.not-Bid; bound = search rules }

@@ -7,6 +7,6 @@ use Rattle.reading.proofs.reader.Reader.call.Goals as goal
 
 pub returns : goal.returns
 returns c =
-    let f = c.in-ok-front.front in
-    ap (λ a. got a (ahead c.end.new.self)) (c.call.ensures ∙ ap (made f.kind f.first f.second) (part_offers c.in-ok-count.count c.behind.new.bids c.in-ok-count.ensures.bound (omega arith)))
+    let f = c.in_ok-front.front in
+    ap (λ a. got a (ahead c.end.new.self)) (c.call.ensures ∙ ap (made f.kind f.first f.second) (part_offers c.in_ok-count.count c.behind.new.bids c.in_ok-count.ensures.bound (omega arith)))
     ∙ search rules

@@ -10,11 +10,11 @@ loop-digit-preserved c =
     ∙ grown-more digit longer c.loop-digit.number (ahead c.loop-digit.self) c.in-Some-digit.digit c.in-Some-longer.more c.in-Some-digit.ensures c.in-Some-longer.ensures
     ∙ c.loop-digit.invariant
 
-pub returns-in-default-longer : goal.returns-in-default-longer
-returns-in-default-longer c =
-    grown_stuck digit longer c.loop-digit.number (ahead c.loop-digit.self) c.in-Some-digit.digit c.in-Some-digit.ensures c.in-default-longer.ensures
+pub returns-in_default-longer : goal.returns-in_default-longer
+returns-in_default-longer c =
+    grown_stuck digit longer c.loop-digit.number (ahead c.loop-digit.self) c.in-Some-digit.digit c.in-Some-digit.ensures c.in_default-longer.ensures
     ∙ c.loop-digit.invariant ∙ begun _ _ _ _ c.in-Some.ensures
 
 pub returns : goal.returns
 returns c =
-    grown_done digit longer c.loop-digit.number (ahead c.loop-digit.self) c.in-default-digit.ensures ∙ c.loop-digit.invariant ∙ begun _ _ _ _ c.in-Some.ensures
+    grown_done digit longer c.loop-digit.number (ahead c.loop-digit.self) c.in_default-digit.ensures ∙ c.loop-digit.invariant ∙ begun _ _ _ _ c.in-Some.ensures

@@ -10,11 +10,11 @@ loop-piece-preserved c =
     ∙ grown-more piece larger c.loop-piece.mask (ahead c.loop-piece.self) c.in-Some-piece.piece c.in-Some-larger.more c.in-Some-piece.ensures c.in-Some-larger.ensures
     ∙ c.loop-piece.invariant
 
-pub returns-in-default-larger : goal.returns-in-default-larger
-returns-in-default-larger c =
-    grown_stuck piece larger c.loop-piece.mask (ahead c.loop-piece.self) c.in-Some-piece.piece c.in-Some-piece.ensures c.in-default-larger.ensures
+pub returns-in_default-larger : goal.returns-in_default-larger
+returns-in_default-larger c =
+    grown_stuck piece larger c.loop-piece.mask (ahead c.loop-piece.self) c.in-Some-piece.piece c.in-Some-piece.ensures c.in_default-larger.ensures
     ∙ c.loop-piece.invariant ∙ begun _ _ _ _ c.in-Some.ensures
 
 pub returns : goal.returns
 returns c =
-    grown_done piece larger c.loop-piece.mask (ahead c.loop-piece.self) c.in-default-piece.ensures ∙ c.loop-piece.invariant ∙ begun _ _ _ _ c.in-Some.ensures
+    grown_done piece larger c.loop-piece.mask (ahead c.loop-piece.self) c.in_default-piece.ensures ∙ c.loop-piece.invariant ∙ begun _ _ _ _ c.in-Some.ensures
