@@ -16,15 +16,15 @@ returns-then-bidder-rows t c =
     record { sum = sym (ap (λ (css : List Bids). best css (bits 16 c.args.free.mask)) (drop_all c.args.bidder bss (omega (arith, as_many c.args.rows.now)))); small = omega arith }
 
 pub loop-i-init : goal.loop-i-init
-loop-i-init t c = (asked-none _ _ _ _ c.most-from-most.ensures.sum, omega arith)
+loop-i-init t c = (asked-none _ _ _ _ c.most_from-most.ensures.sum, omega arith)
 
 pub loop-i-preserved-then-fits : goal.loop-i-preserved-then-fits
 loop-i-preserved-then-fits t c =
     let rest = best (drop (c.args.bidder + 1) (all_held c.args.rows.now)) in
-    let offered = c.with-price.ensures.sum ∙ ap (λ (x : ℕ). (get_or c.bids-bids.result.now (c.loop-i.i - 1) nothing).price + x) (c.most-from-rest.ensures.sum ∙ ap rest c.left-by.ensures) in
+    let offered = c.with_price.ensures.sum ∙ ap (λ (x : ℕ). (get_or c.bids-bids.result.now (c.loop-i.i - 1) nothing).price + x) (c.most_from-rest.ensures.sum ∙ ap rest c.left_by.ensures) in
     let A : ℕ → Type 0 = λ m. Asked c.bids-bids.result.now (c.loop-i.i - 1) (bits 16 c.args.free.mask) rest m in (
       subst A (sym c.max-most.ensures) (asked-fits _ _ c.loop-i.i _ _ _ (search rules) (omega arith) c.loop-i.invariant.0 (sym c.fits.ensures ∙ c.if-fits.true) _ offered),
-      omega (arith, c.with-price.ensures.small, c.most-from-rest.ensures.small),
+      omega (arith, c.with_price.ensures.small, c.most_from-rest.ensures.small),
     )
 
 pub loop-i-preserved : goal.loop-i-preserved

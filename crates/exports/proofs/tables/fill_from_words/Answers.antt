@@ -8,9 +8,9 @@ use Rattle.exports.proofs.tables.fill_from_words.Goals as goal
 
 pub returns : goal.returns
 returns c =
-    let u = c.fill-tables.new.tables in
+    let u = c.fill_tables.new.tables in
     let n = c.args.pieces in
     let P : List Bids → Type 0 = λ bss. FilledFrom c.args.tables.now u n bss 0 in
     let Q : List Bids → Type 0 = λ bss. AllMost u n bss in
-    let read = ap (λ (k : ℕ). all_held (take k c.read-rows-rows.result)) (sub-zero c.args.bidders) ∙ c.read-rows-rows.ensures in
-    record { filled = subst P read c.fill-tables.ensures.filled; ways = subst Q read c.fill-tables.ensures.ways }
+    let read = ap (λ (k : ℕ). all_held (take k c.read_rows-rows.result)) (sub-zero c.args.bidders) ∙ c.read_rows-rows.ensures in
+    record { filled = subst P read c.fill_tables.ensures.filled; ways = subst Q read c.fill_tables.ensures.ways }

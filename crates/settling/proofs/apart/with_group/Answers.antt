@@ -24,8 +24,8 @@ loop-j-preserved c =
     let P : Shares → Type 0 = λ q. PlacingAny rows ws m shares c.args.all q (j + 1) × Whole q in
     elim c.if-wants-j-ne0.branch [
       | then-wants-j-ne0 w ↦ subst P (sym w.all-is) (
-        any-more rows ws m shares c.args.all r j lt c.requires.0 c.loop-j.invariant.0 w.index-rows-j.result w.taken-at.result (ap not (ne_eqb (bit_and (get_or ws j 0) m) 0 w.if-wants-j-ne0.true)) w.index-rows-j.is w.taken-at.ensures,
-        put_whole r j w.taken-at.result _ c.loop-j.invariant.1,
+        any-more rows ws m shares c.args.all r j lt c.requires.0 c.loop-j.invariant.0 w.index-rows-j.result w.taken_at.result (ap not (ne_eqb (bit_and (get_or ws j 0) m) 0 w.if-wants-j-ne0.true)) w.index-rows-j.is w.taken_at.ensures,
+        put_whole r j w.taken_at.result _ c.loop-j.invariant.1,
       )
       | else-wants-j-ne0 w ↦ subst P (sym w.all-is) (any_past rows ws m shares c.args.all r j lt c.requires.0 c.loop-j.invariant.0 (ap not (eq-eqb (bit_and (get_or ws j 0) m) 0 w.if-wants-j-ne0.false)), c.loop-j.invariant.1)
     ]

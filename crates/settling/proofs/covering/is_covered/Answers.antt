@@ -12,19 +12,19 @@ here : (b : Bid) (by : List Bid) (i : ℕ) → i < length by → covered (meant 
 unfolding covered
 here b by i lt = ap (λ (bs : List Bid). covered (meant b) (all_meant bs)) (drop_more by i nothing lt)
 
-pub returns-then-is-cover : goal.returns-then-is-cover
-returns-then-is-cover c =
+pub returns-then-is_cover : goal.returns-then-is_cover
+returns-then-is_cover c =
     let b = c.args.bid in
     let by = c.args.by.now in
     let i = c.loop-other.other-index in
-    sym (c.loop-other.invariant ∙ here b by i (search rules) ∙ ap (λ (t : Bool). t || covered (meant b) (all_meant (drop (i + 1) by))) (sym c.if-is-cover.ensures))
+    sym (c.loop-other.invariant ∙ here b by i (search rules) ∙ ap (λ (t : Bool). t || covered (meant b) (all_meant (drop (i + 1) by))) (sym c.if-is_cover.ensures))
 
 pub loop-other-preserved : goal.loop-other-preserved
 loop-other-preserved c =
     let b = c.args.bid in
     let by = c.args.by.now in
     let i = c.loop-other.other-index in
-    c.loop-other.invariant ∙ here b by i (search rules) ∙ ap (λ (t : Bool). t || covered (meant b) (all_meant (drop (i + 1) by))) (sym c.if-is-cover.ensures)
+    c.loop-other.invariant ∙ here b by i (search rules) ∙ ap (λ (t : Bool). t || covered (meant b) (all_meant (drop (i + 1) by))) (sym c.if-is_cover.ensures)
 
 pub returns : goal.returns
 unfolding covered

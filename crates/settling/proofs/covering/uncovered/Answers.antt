@@ -17,8 +17,8 @@ loop-i-init c =
     let Q : List Bid → Type 0 = λ bs. Kept [] (all_meant bs) in
     (subst P (sym c.new-left.ensures) (subst Q (sym (drop_all (length bids) bids (omega arith))) kept_none), omega (arith, ap length c.new-left.ensures))
 
-pub loop-i-preserved-then-not-is-covered : goal.loop-i-preserved-then-not-is-covered
-loop-i-preserved-then-not-is-covered c =
+pub loop-i-preserved-then-not-is_covered : goal.loop-i-preserved-then-not-is_covered
+loop-i-preserved-then-not-is_covered c =
     let bids = c.args.bids.now in
     let i = c.loop-i.i in
     let left = held c.loop-i.left in
@@ -31,7 +31,7 @@ loop-i-preserved c =
     let bids = c.args.bids.now in
     let i = c.loop-i.i in
     let left = held c.loop-i.left in
-    let over = c.if-not-is-covered.ensures ∙ ap (λ (ks : List Bid). covered (meant (get_or bids (i - 1) nothing)) (all_meant ks)) c.bids.ensures in
+    let over = c.if-not-is_covered.ensures ∙ ap (λ (ks : List Bid). covered (meant (get_or bids (i - 1) nothing)) (all_meant ks)) c.bids.ensures in
     (left_out bids i (search rules) (search rules) left c.loop-i.invariant.0 over, omega (arith, c.loop-i.invariant.1))
 
 pub returns : goal.returns

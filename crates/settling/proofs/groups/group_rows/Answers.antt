@@ -30,8 +30,8 @@ loop-i-preserved c =
     let i = c.loop-i.i in
     let members = c.loop-i.members in
     let lt : i < length rows = omega arith in
-    let this = one_is ws m rows i c.index-rows-i.result _ lt c.index-rows-i.is c.member-row.ensures in
-    (rows_more members c.member-row.result (one ws m rows) i (omega (arith, c.loop-i.invariant.1)) this c.loop-i.invariant.0, length-set members i c.member-row.result ∙ c.loop-i.invariant.1)
+    let this = one_is ws m rows i c.index-rows-i.result _ lt c.index-rows-i.is c.member_row.ensures in
+    (rows_more members c.member_row.result (one ws m rows) i (omega (arith, c.loop-i.invariant.1)) this c.loop-i.invariant.0, length-set members i c.member_row.result ∙ c.loop-i.invariant.1)
 
 pub returns : goal.returns
 returns c =

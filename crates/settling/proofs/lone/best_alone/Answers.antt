@@ -12,16 +12,16 @@ same_number : (bids held : List Bid) (whole most : ℕ) → bids ≡ held → mo
 same_number bids held whole most e high =
     ap (λ (m : ℕ). first_good (all_meant bids) (bits 16 whole) (λ _. 0) m 0) high ∙ ap (λ (bs : List Bid). alone (all_meant bs) (bits 16 whole)) e
 
-pub returns-then-is-best : goal.returns-then-is-best
-returns-then-is-best c =
+pub returns-then-is_best : goal.returns-then-is_best
+returns-then-is_best c =
     let bids = c.bids-bids.result.now in
     let whole = c.args.whole.mask in
-    first_found bids (bits 16 whole) c.highest-most.result c.loop-i.i (search rules) c.if-is-best.ensures ∙ sym c.loop-i.invariant
+    first_found bids (bits 16 whole) c.highest-most.result c.loop-i.i (search rules) c.if-is_best.ensures ∙ sym c.loop-i.invariant
     ∙ same_number bids _ whole c.highest-most.result c.bids-bids.ensures c.highest-most.ensures
 
 pub loop-i-preserved : goal.loop-i-preserved
 loop-i-preserved c =
-    c.loop-i.invariant ∙ first_later c.bids-bids.result.now (bits 16 c.args.whole.mask) c.highest-most.result c.loop-i.i (search rules) c.if-is-best.ensures
+    c.loop-i.invariant ∙ first_later c.bids-bids.result.now (bits 16 c.args.whole.mask) c.highest-most.result c.loop-i.i (search rules) c.if-is_best.ensures
 
 pub returns : goal.returns
 returns c =

@@ -8,13 +8,13 @@ use Rattle.settling.proofs.lone.highest.Goals as goal
 pub loop-i-init : goal.loop-i-init
 loop-i-init c = highest-none c.args.bids.now (bits 16 c.args.whole.mask)
 
-pub loop-i-preserved-then-is-as-high : goal.loop-i-preserved-then-is-as-high
-loop-i-preserved-then-is-as-high c =
-    highest-more c.args.bids.now (bits 16 c.args.whole.mask) c.loop-i.i (search rules) (search rules) c.loop-i.most c.loop-i.invariant c.if-is-as-high.ensures
+pub loop-i-preserved-then-is_as_high : goal.loop-i-preserved-then-is_as_high
+loop-i-preserved-then-is_as_high c =
+    highest-more c.args.bids.now (bits 16 c.args.whole.mask) c.loop-i.i (search rules) (search rules) c.loop-i.most c.loop-i.invariant c.if-is_as_high.ensures
 
 pub loop-i-preserved : goal.loop-i-preserved
 loop-i-preserved c =
-    highest_same c.args.bids.now (bits 16 c.args.whole.mask) c.loop-i.i (search rules) (search rules) c.loop-i.most c.loop-i.invariant c.if-is-as-high.ensures
+    highest_same c.args.bids.now (bits 16 c.args.whole.mask) c.loop-i.i (search rules) (search rules) c.loop-i.most c.loop-i.invariant c.if-is_as_high.ensures
 
 pub returns : goal.returns
 returns c =

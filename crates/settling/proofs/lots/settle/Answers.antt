@@ -7,23 +7,23 @@ use Rattle.solver.proofs.Bidders.{as_many}
 use Rattle.settling.proofs.Sums.{comes_to_is, brings_is, paid_below}
 use Rattle.settling.proofs.lots.settle.Goals as goal
 
-pub add-up-sums-requires : goal.add-up-sums-requires
-add-up-sums-requires c =
+pub add_up-sums-requires : goal.add_up-sums-requires
+add_up-sums-requires c =
     let rows = c.args.rows.now in
-    let z = c.share-lot-shares.ensures in
-    (c.requires.few_bidders, (z.taken.long, (z.paid.long, paid_below (all_held rows) _ c.share-lot-shares.result z)))
+    let z = c.share_lot-shares.ensures in
+    (c.requires.few_bidders, (z.taken.long, (z.paid.long, paid_below (all_held rows) _ c.share_lot-shares.result z)))
 
 pub returns : goal.returns
 returns c =
     let rows = c.args.rows.now in
-    let s = c.share-lot-shares.result in
-    let z = c.share-lot-shares.ensures in
-    let same : length c.share-lot-shares.new.tables ≡ length c.args.tables.now = omega arith in
+    let s = c.share_lot-shares.result in
+    let z = c.share_lot-shares.ensures in
+    let same : length c.share_lot-shares.new.tables ≡ length c.args.tables.now = omega arith in
     record {
       settled = record {
         shares = z;
-        comes_to = c.add-up-sums.ensures.prices ∙ ap (λ (k : ℕ). summed k (λ i. (get_or s.taken i nothing_taken).bid.price)) (sym (as_many rows)) ∙ comes_to_is (all_held rows) (all c.args.pieces) s z;
-        brings = c.add-up-sums.ensures.payments ∙ ap (λ (k : ℕ). summed k (λ i. get_or s.paid i 0)) (sym (as_many rows)) ∙ brings_is (all_held rows) (all c.args.pieces) s z;
+        comes_to = c.add_up-sums.ensures.prices ∙ ap (λ (k : ℕ). summed k (λ i. (get_or s.taken i nothing_taken).bid.price)) (sym (as_many rows)) ∙ comes_to_is (all_held rows) (all c.args.pieces) s z;
+        brings = c.add_up-sums.ensures.payments ∙ ap (λ (k : ℕ). summed k (λ i. get_or s.paid i 0)) (sym (as_many rows)) ∙ brings_is (all_held rows) (all c.args.pieces) s z;
       };
       cleared = c.fill.ensures.after (λ y e. e) ∙ ap (λ (k : ℕ). replicate k 0) same;
     }

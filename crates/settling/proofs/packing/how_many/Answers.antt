@@ -5,8 +5,8 @@ use Rattle.settling.proofs.packing.how_many.Goals as goal
 pub loop-piece-init : goal.loop-piece-init
 loop-piece-init c = many_none c.args.places.mask
 
-pub overflow-add-many : goal.overflow-add-many
-overflow-add-many c = let small = many_small c.args.places.mask c.loop-piece.piece (search rules) (search rules) c.loop-piece.many c.loop-piece.invariant in omega arith
+pub overflow_add-many : goal.overflow_add-many
+overflow_add-many c = let small = many_small c.args.places.mask c.loop-piece.piece (search rules) (search rules) c.loop-piece.many c.loop-piece.invariant in omega arith
 
 pub loop-piece-preserved-then-has : goal.loop-piece-preserved-then-has
 loop-piece-preserved-then-has c =

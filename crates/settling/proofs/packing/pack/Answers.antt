@@ -6,18 +6,18 @@ use Rattle.settling.proofs.packing.pack.Goals as goal
 pub loop-piece-init : goal.loop-piece-init
 loop-piece-init c = packed_none c.args.places.mask c.args.set.mask
 
-pub overflow-mul-mask : goal.overflow-mul-mask
-overflow-mul-mask c = let small = mask_small c.args.places.mask c.loop-piece.piece (search rules) (search rules) c.args.set.mask c.loop-piece.mask c.loop-piece.invariant in omega arith
+pub overflow_mul-mask : goal.overflow_mul-mask
+overflow_mul-mask c = let small = mask_small c.args.places.mask c.loop-piece.piece (search rules) (search rules) c.args.set.mask c.loop-piece.mask c.loop-piece.invariant in omega arith
 
-pub overflow-add-mask : goal.overflow-add-mask
-overflow-add-mask c =
+pub overflow_add-mask : goal.overflow_add-mask
+overflow_add-mask c =
     let small = mask_small c.args.places.mask c.loop-piece.piece (search rules) (search rules) c.args.set.mask c.loop-piece.mask c.loop-piece.invariant in
-    omega (arith, c.bit-of.ensures, bit_small (get_or (bits 16 c.args.set.mask) (c.loop-piece.piece - 1) false))
+    omega (arith, c.bit_of.ensures, bit_small (get_or (bits 16 c.args.set.mask) (c.loop-piece.piece - 1) false))
 
 pub loop-piece-preserved-then-has : goal.loop-piece-preserved-then-has
 loop-piece-preserved-then-has c =
-    packed_there c.args.places.mask c.loop-piece.piece (search rules) (search rules) c.args.set.mask c.loop-piece.mask c.bit-of.result c.loop-piece.invariant
-    (sym c.if-has.true ∙ c.has.ensures 16 (search rules)) c.bit-of.ensures
+    packed_there c.args.places.mask c.loop-piece.piece (search rules) (search rules) c.args.set.mask c.loop-piece.mask c.bit_of.result c.loop-piece.invariant
+    (sym c.if-has.true ∙ c.has.ensures 16 (search rules)) c.bit_of.ensures
 
 pub loop-piece-preserved : goal.loop-piece-preserved
 loop-piece-preserved c =

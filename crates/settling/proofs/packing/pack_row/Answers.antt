@@ -17,9 +17,9 @@ loop-i-preserved c =
     omega (arith, ap length c.loop-i.invariant, length-map (take i bids) (packed_one m), length-take i bids, ap length c.bids-bids.ensures, held_short c.args.row.now) in
     let one : List Bid = get_or bids i nothing ∷ [] in
     c.push.ensures.pushed
-    ∙ ap (λ (t : Bool). cond t (packed ++ c.pack-bid.result ∷ []) packed) (c.push.ensures.full ∙ lt-ltb (length packed) 16 few)
-    ∙ ap (λ (xs : List Bid). xs ++ c.pack-bid.result ∷ []) c.loop-i.invariant
-    ∙ ap (λ (b : Bid). packed_bids m (take i bids) ++ b ∷ []) c.pack-bid.ensures
+    ∙ ap (λ (t : Bool). cond t (packed ++ c.pack_bid.result ∷ []) packed) (c.push.ensures.full ∙ lt-ltb (length packed) 16 few)
+    ∙ ap (λ (xs : List Bid). xs ++ c.pack_bid.result ∷ []) c.loop-i.invariant
+    ∙ ap (λ (b : Bid). packed_bids m (take i bids) ++ b ∷ []) c.pack_bid.ensures
     ∙ sym (map-append (packed_one m) (take i bids) one)
     ∙ ap (packed_bids m) (sym (take_more bids i nothing (search rules)))
 

@@ -12,7 +12,7 @@ pub loop-bidder-preserved : goal.loop-bidder-preserved
 loop-bidder-preserved c =
     let rows = c.args.rows.now in
     walked_more (all_held rows) (bits c.args.pieces c.args.whole) c.args.pieces c.loop-bidder.bidder c.loop-bidder.free c.loop-bidder.taken c.loop-bidder.invariant (omega (arith, as_many rows)) (omega (arith, as_many rows, c.requires.0.few_bidders))
-    c.choose-got.result c.left-over-free.result c.choose-got.ensures (c.left-over-free.ensures.less c.args.pieces) c.left-over-free.ensures.no_more
+    c.choose-got.result c.left_over-free.result c.choose-got.ensures (c.left_over-free.ensures.less c.args.pieces) c.left_over-free.ensures.no_more
 
 pub returns : goal.returns
 returns c =

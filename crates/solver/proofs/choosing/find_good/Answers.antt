@@ -2,16 +2,16 @@ use Rattle.std.proofs.Common.{sym, ◌∙◌, arith, rules}
 use Rattle.solver.proofs.Goods.{Passed, found_good, passed_more, passed_all}
 use Rattle.solver.proofs.choosing.find_good.Goals as goal
 
-pub returns-then-is-good : goal.returns-then-is-good
-returns-then-is-good c =
+pub returns-then-is_good : goal.returns-then-is_good
+returns-then-is_good c =
     record {
-      place = λ rest h. found_good c.args.tables.now c.args.next c.args.pieces c.args.bids.now c.args.free c.args.most c.loop-i.i c.loop-i.invariant rest h (search rules) (sym (c.is-good.ensures rest h) ∙ c.if-is-good.true);
+      place = λ rest h. found_good c.args.tables.now c.args.next c.args.pieces c.args.bids.now c.args.free c.args.most c.loop-i.i c.loop-i.invariant rest h (search rules) (sym (c.is_good.ensures rest h) ∙ c.if-is_good.true);
       there = search rules;
     }
 
 pub loop-i-preserved : goal.loop-i-preserved
 loop-i-preserved c =
-    passed_more c.args.tables.now c.args.next c.args.pieces c.args.bids.now c.args.free c.args.most c.loop-i.i c.loop-i.invariant (search rules) (λ rest h. sym (c.is-good.ensures rest h) ∙ c.if-is-good.false)
+    passed_more c.args.tables.now c.args.next c.args.pieces c.args.bids.now c.args.free c.args.most c.loop-i.i c.loop-i.invariant (search rules) (λ rest h. sym (c.is_good.ensures rest h) ∙ c.if-is_good.false)
 
 pub returns : goal.returns
 returns c =

@@ -10,14 +10,14 @@ returns-then-free-on c = λ rest h.
     good_misses c.args.tables.now c.args.next c.args.pieces c.args.bid.on.mask c.args.bid.price c.args.free c.args.most rest (search rules) c.requires.1.0 h
     (λ e. c.if-free-on.true (subst P (sym c.from-on.ensures) e))
 
-pub overflow-sub-free : goal.overflow-sub-free
-overflow-sub-free c = omega (arith, and_le_l c.args.free c.from-on.result)
+pub overflow_sub-free : goal.overflow_sub-free
+overflow_sub-free c = omega (arith, and_le_l c.args.free c.from-on.result)
 
 pub returns : goal.returns
 returns c = λ rest h.
     let P : ℕ → Type 0 = λ on. bit_and c.args.free on ≡ on in
     let t = c.args.tables.now in
-    let sum = c.get-sum.ensures ∙ ap (λ (on : ℕ). sum_at t c.args.next (c.args.free - on)) c.from-on.ensures in
+    let sum = c.get_sum.ensures ∙ ap (λ (on : ℕ). sum_at t c.args.next (c.args.free - on)) c.from-on.ensures in
     ap₂ (λ (p s : ℕ). eqb (p + s) c.args.most) c.from.ensures sum
     ∙ good-fits t c.args.next c.args.pieces c.args.bid.on.mask c.args.bid.price c.args.free c.args.most rest (search rules) c.requires.1.0 h
     (subst P c.from-on.ensures c.if-free-on.false)

@@ -4,8 +4,8 @@ use Rattle.bundles.specs.Masks.{bits}
 use Rattle.bundles.proofs.Sets.{less-bits}
 use Rattle.solver.proofs.choosing.left_over.Goals as goal
 
-pub overflow-sub-result : goal.overflow-sub-result
-overflow-sub-result c = and_le_l c.args.free c.from.result
+pub overflow_sub-result : goal.overflow_sub-result
+overflow_sub-result c = and_le_l c.args.free c.from.result
 
 pub returns : goal.returns
 returns c =

@@ -13,15 +13,15 @@ nothing = record { on = record { mask = 0 }; price = 0 }
 pub loop-i-init : goal.loop-i-init
 loop-i-init c =
     let t = c.args.tables.now in
-    let u = c.copy-table.new.tables in
+    let u = c.copy_table.new.tables in
     let bids = c.args.bids.now in
-    let none = filled_still t u (length t) c.args.to c.args.from c.args.pieces _ c.requires.0 c.copy-table.ensures in
+    let none = filled_still t u (length t) c.args.to c.args.from c.args.pieces _ c.requires.0 c.copy_table.ensures in
     let P : List Bid → Type 0 = λ bs. Filled u u c.args.to c.args.from c.args.pieces (all_meant bs) in
     subst P (sym (drop_all (length bids) bids (omega arith))) none
 
 pub loop-i-preserved : goal.loop-i-preserved
 loop-i-preserved c =
-    let u = c.copy-table.new.tables in
+    let u = c.copy_table.new.tables in
     let bids = c.args.bids.now in
     let i = c.loop-i.i in
     let same : i - 1 + 1 ≡ i = omega arith in
@@ -32,7 +32,7 @@ loop-i-preserved c =
 pub returns : goal.returns
 returns c =
     let t = c.args.tables.now in
-    let u = c.copy-table.new.tables in
+    let u = c.copy_table.new.tables in
     let bids = c.args.bids.now in
     let first : c.loop-i.i ≡ 0 = omega arith in
-    filled_since t u c.loop-i.tables (length t) c.args.to c.args.from c.args.pieces (all_meant bids) c.requires.0 c.copy-table.ensures.only (simp first at c.loop-i.invariant)
+    filled_since t u c.loop-i.tables (length t) c.args.to c.args.from c.args.pieces (all_meant bids) c.requires.0 c.copy_table.ensures.only (simp first at c.loop-i.invariant)

@@ -11,7 +11,7 @@ pub loop-set-smaller : goal.loop-set-smaller
 loop-set-smaller c = let past = next_past c.loop-set.set c.from-on.result in omega arith
 
 pub loop-set-preserved : goal.loop-set-preserved
-loop-set-preserved c = reached_next _ _ _ _ _ _ _ _ _ _ c.requires.0 (search rules) (search rules) c.loop-set.invariant c.raise-sum.ensures
+loop-set-preserved c = reached_next _ _ _ _ _ _ _ _ _ _ c.requires.0 (search rules) (search rules) c.loop-set.invariant c.raise_sum.ensures
 
 pub returns : goal.returns
 returns c =

@@ -17,8 +17,8 @@ solved t u n kept few f = solved_by t u n (all_held kept) (omega (arith, as_many
 room_for : (was len n : ℕ) (kept rows : List Row) → was ≡ len → length kept ≡ length rows → RoomToPay was n (length rows) → RoomToPay len n (length kept)
 room_for was len n kept rows same many room = rw (← same, many) room
 
-pub fill-tables-requires : goal.fill-tables-requires
-fill-tables-requires c =
+pub fill_tables-requires : goal.fill_tables-requires
+fill_tables-requires c =
     let kept = c.args.kept.now in
     let rows = c.args.rows.now in
     room_to_fill _ c.args.pieces (length kept) (room_for _ _ c.args.pieces kept rows refl (kept_many kept rows c.requires.1.1) c.requires.0)
@@ -28,27 +28,27 @@ allocate-taken-requires c =
     let kept = c.args.kept.now in
     let rows = c.args.rows.now in
     let t = c.args.tables.now in
-    let u = c.fill-tables.new.tables in
+    let u = c.fill_tables.new.tables in
     let n = c.args.pieces in
     let many = kept_many kept rows c.requires.1.1 in
     let same : length t ≡ length u = omega arith in
     let R : ℕ → Type 0 = λ len. RoomToPay len n (length rows) in
-    (room_to_fill (length u) n (length rows) (subst R same c.requires.0), (c.requires.1.0, solved_all (all_held kept) (all_held rows) c.requires.1.1 u n (solved t u n kept (omega (arith, c.requires.0.few_bidders)) c.fill-tables.ensures.filled)))
+    (room_to_fill (length u) n (length rows) (subst R same c.requires.0), (c.requires.1.0, solved_all (all_held kept) (all_held rows) c.requires.1.1 u n (solved t u n kept (omega (arith, c.requires.0.few_bidders)) c.fill_tables.ensures.filled)))
 
-pub pay-all-paid-requires : goal.pay-all-paid-requires
-pay-all-paid-requires c =
+pub pay_all-paid-requires : goal.pay_all-paid-requires
+pay_all-paid-requires c =
     let kept = c.args.kept.now in
     let rows = c.args.rows.now in
     let t = c.args.tables.now in
-    let u = c.fill-tables.new.tables in
+    let u = c.fill_tables.new.tables in
     let n = c.args.pieces in
     let many = kept_many kept rows c.requires.1.1 in
     let same : length t ≡ length u = omega arith in
-    (room_for (length t) (length u) n kept rows same many c.requires.0, (c.requires.1.0, solved t u n kept (omega (arith, c.requires.0.few_bidders)) c.fill-tables.ensures.filled))
+    (room_for (length t) (length u) n kept rows same many c.requires.0, (c.requires.1.0, solved t u n kept (omega (arith, c.requires.0.few_bidders)) c.fill_tables.ensures.filled))
 
 pub returns : goal.returns
 returns c =
     record {
       taken = c.allocate-taken.ensures;
-      paid = paid_as (all_held c.args.kept.now) (all_held c.args.rows.now) c.requires.1.1 (bits c.args.pieces c.args.whole) c.allocate-taken.result c.pay-all-paid.result c.allocate-taken.ensures c.pay-all-paid.ensures;
+      paid = paid_as (all_held c.args.kept.now) (all_held c.args.rows.now) c.requires.1.1 (bits c.args.pieces c.args.whole) c.allocate-taken.result c.pay_all-paid.result c.allocate-taken.ensures c.pay_all-paid.ensures;
     }
