@@ -3,7 +3,7 @@
 -- Assumes nothing.
 use Rattle.std.proofs.Common.{◌≡◌, ℕ, zero, suc, ◌+◌, ◌<◌, ◌≤◌, true, List, [], ◌∷◌, length, get_or, set, sym, refl, ap, ◌∙◌, subst, arith}
 use Rattle.std.proofs.lemmas.List.{get_or-set_same}
-use Rattle.auction.specs.Bids.{Some, within, less, all, Bid, Bids, best, with_some, given, choice, without, taken, pays}
+use Rattle.auction.specs.Bids.{Some, within, less, all, Bid, Bids, best, with_some, given, choice, without}
 use Rattle.auction.specs.Promise.{worth, TruthIsBest}
 use Rattle.auction.specs.Laws.{BestWay, got_by, clarke, NoTieRuleRewardsLying}
 use Rattle.auction.proofs.Sets.{within_refl, within_trans, less_anti}

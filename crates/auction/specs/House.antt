@@ -1,6 +1,6 @@
 -- The house: lots, sealed bids, time, and results. Assumes nothing: these are definitions.
-use Rattle.std.specs.Prelude.{◌≡◌, ℕ, zero, suc, ◌+◌, ◌-◌, ◌*◌, ◌<◌, ◌≤◌, Bool, true, false, not, ◌&&◌, ◌||◌, List, [], ◌∷◌, ◌++◌, length, ◌==◌, nat_le, nat_lt, slice_index, slice_index_or, slice_set}
-use Rattle.auction.specs.Bids.{pick, Some, within, all, none, Bid, Bids, no_bid, best, choice, given, taken, pays}
+use Rattle.std.specs.Prelude.{ℕ, zero, suc, ◌+◌, Bool, true, false, ◌&&◌, ◌||◌, List, [], ◌∷◌, ◌++◌, length, ◌==◌, nat_le, nat_lt, slice_index, slice_index_or, slice_set}
+use Rattle.auction.specs.Bids.{pick, Some, within, all, Bids, best, choice, pays}
 
 pub data Call : Type 0 where
   opens : ℕ → ℕ → Call  -- a lot of so many pieces, until a tick

@@ -1,7 +1,7 @@
 -- What is promised. Each is a statement, a type whose proof is owed. Assumes nothing.
-use Rattle.std.specs.Prelude.{◌≡◌, ℕ, zero, suc, ◌+◌, ◌-◌, ◌*◌, ◌/◌, ◌<◌, ◌≤◌, Bool, true, false, not, ◌&&◌, ◌||◌, ◌≢◌, ◌⊎◌, List, [], ◌∷◌, ◌++◌, length, get_or, take, set, replicate, ◌==◌, nat_le, nat_lt, slice_index, slice_index_or, slice_set}
-use Rattle.auction.specs.Bids.{pick, Some, within, less, all, none, Bid, Bids, no_bid, larger, best, choice, given, without, taken, pays}
-use Rattle.auction.specs.House.{Call, opens, bids, ticks, my_bids, result, brings, lot_is, garbled, Answer, Limits, Lot, House, the_lot, any, prices_fine, turned, after, answer, answers, ran, new_house}
+use Rattle.std.specs.Prelude.{◌≡◌, ℕ, suc, ◌+◌, ◌*◌, ◌<◌, ◌≤◌, Bool, true, false, not, ◌&&◌, ◌||◌, ◌≢◌, List, [], ◌∷◌, ◌++◌, length, get_or, set, ◌==◌, nat_le, nat_lt, slice_index, slice_index_or, slice_set}
+use Rattle.auction.specs.Bids.{pick, Some, within, less, all, Bids, no_bid, larger, best, choice, given, taken, pays}
+use Rattle.auction.specs.House.{Call, opens, bids, ticks, my_bids, result, brings, lot_is, garbled, Answer, Limits, House, the_lot, prices_fine, turned, after, answer, answers, ran, new_house}
 
 abbrev pub GoodLimits : Limits → Type 0
 GoodLimits l = (l.lots ≤ 4096) × (0 < l.bidders) × (l.bidders ≤ 32) × (l.each ≤ 16)

@@ -1,5 +1,5 @@
 -- What is picked, once the test is known. Assumes nothing.
-use Rattle.std.proofs.Common.{◌≡◌, Bool, true, false, refl, ap, ◌∙◌}
+use Rattle.std.proofs.Common.{◌≡◌, Bool, true, false, ap}
 use Rattle.auction.specs.Bids.{pick}
 
 pub pick_yes : {A : Type 0} {t : Bool} (x y : A) → t ≡ true → pick t x y ≡ x

@@ -1,7 +1,7 @@
 -- The bridge between masks and sets: what `&`, `|` and `>>` on masks do to the sets that their bits are. Each goes through the bits, lowest first. Assumes nothing.
-use Rattle.std.proofs.Common.{◌≡◌, ℕ, zero, suc, ◌+◌, ◌-◌, ◌*◌, ◌/◌, ◌%◌, ◌^◌, ◌<◌, ◌≤◌, min, max, Bool, true, false, not, ◌&&◌, ◌||◌, eqb, leb, [], ◌∷◌, length, get_or, sym, refl, ap, ◌∙◌, subst, ap₂, pow-suc, div-one, one-add, arith, pow_mono}
+use Rattle.std.proofs.Common.{◌≡◌, ℕ, zero, suc, ◌+◌, ◌-◌, ◌*◌, ◌/◌, ◌%◌, ◌^◌, ◌<◌, ◌≤◌, min, max, Bool, true, false, not, ◌&&◌, ◌||◌, eqb, [], ◌∷◌, length, get_or, sym, refl, ap, ◌∙◌, subst, ap₂, pow-suc, div-one, one-add, arith, pow_mono}
 use native.Mathlib.Nat.{zero-div, div-eq_of_lt}
-use lib.Bits.{bit_and, bit_or, and_step, or_step, and_zero_l, and_zero_r}
+use lib.Bits.{bit_and, bit_or, and_step, or_step, and_zero_r}
 use Rattle.std.proofs.lemmas.Nat.{shr-shr}
 use Rattle.std.proofs.lemmas.Bool.Decides.{nat_tests}
 use Rattle.auction.specs.Bids.{Some, pick, within, less, all}

@@ -1,5 +1,5 @@
 -- What a bid, and a row of bids, by value mean. Assumes nothing: these are definitions.
-use Rattle.std.specs.Prelude.{List, [], ◌∷◌, map, take}
+use Rattle.std.specs.Prelude.{List, map}
 use Rattle.auction.specs.Bids.{Bids, Bid as Offer}
 use Rattle.bundles.specs.Masks.{bits}
 use Rattle.bundles.specs.declared.Bid.{Bid}

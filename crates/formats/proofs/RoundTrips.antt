@@ -1,9 +1,9 @@
 -- The laws of the formats: what is written is read back, what is read is written back, and where bytes cease to be a call. Assumes nothing.
-use Rattle.std.proofs.Common.{◌≡◌, ℕ, zero, suc, ◌+◌, ◌-◌, ◌*◌, ◌/◌, ◌%◌, ◌^◌, ◌<◌, ◌≤◌, min, Bool, true, false, not, ◌&&◌, eqb, ltb, leb, ◌⊎◌, List, [], ◌∷◌, ◌++◌, length, get_or, take, drop, replicate, sym, refl, ap, ◌∙◌, subst, ap₂, inl, inr, arith, length-append, length-drop}
-use Rattle.std.proofs.lemmas.List.{append_assoc, append-nil, drop_at, drop-drop, drop_more, get_or_append_left, get_or-drop, get_or_past, get_or-take, length-replicate, length-take-le, take_all, take-append-drop}
-use Rattle.std.proofs.lemmas.Bool.{false≢true, and_from, and_parts, eq-eqb, eqb-true, le-leb, lt-ltb, ltb-true, ne_eqb, cases_order}
+use Rattle.std.proofs.Common.{◌≡◌, ℕ, zero, suc, ◌+◌, ◌-◌, ◌*◌, ◌^◌, ◌<◌, ◌≤◌, min, Bool, true, false, ◌&&◌, eqb, ltb, ◌⊎◌, List, [], ◌∷◌, ◌++◌, length, get_or, take, drop, replicate, sym, refl, ap, ◌∙◌, subst, ap₂, inl, inr, arith, length-append, length-drop}
+use Rattle.std.proofs.lemmas.List.{append-nil, drop_at, drop-drop, drop_more, get_or_append_left, get_or-drop, get_or-take, length-replicate, length-take-le, take_all, take-append-drop}
+use Rattle.std.proofs.lemmas.Bool.{false≢true, and_from, and_parts, eq-eqb, eqb-true, lt-ltb, ltb-true, ne_eqb, cases_order}
 use Rattle.std.proofs.lemmas.Bool.Decides.{nat_tests}
-use Rattle.auction.specs.Bids.{Bids, Bid, pick}
+use Rattle.auction.specs.Bids.{Bids}
 use Rattle.auction.specs.House.{Call, opens, bids, ticks, my_bids, result, brings, lot_is, garbled}
 use Rattle.auction.specs.Promise.{field, fields_of, readable}
 use Rattle.bundles.proofs.Picks.{pick_yes, pick_no}

@@ -2,7 +2,7 @@
 use Rattle.std.specs.Prelude.{ℕ, ◌+◌, Bool, List, ◌==◌, slice_index}
 use Rattle.auction.specs.Bids.{pick}
 use Rattle.auction.specs.House.{Call, opens, bids, ticks, my_bids, result, brings, lot_is, garbled, Answer, refused, answer, place, turned, Limits as AllLimits}
-use Rattle.auction.specs.Promise.{Keeper, Memory, thin}
+use Rattle.auction.specs.Promise.{Keeper, thin}
 use Rattle.ledger.specs.Houses.{house_in, is_house, limits_in, limits_of, with_lot, with_now}
 use Rattle.ledger.specs.Layout.{count_at, now_at}
 use Rattle.ledger.specs.Opening.{new_words}

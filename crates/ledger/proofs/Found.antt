@@ -10,7 +10,7 @@ use Rattle.ledger.specs.declared.lots.Lot.{Lot as LotWords}
 use Rattle.ledger.specs.declared.standing.Header.{Header}
 use Rattle.ledger.specs.Layout.{lot_at, count_at}
 use Rattle.ledger.specs.Houses.{house_in, is_house, limits_in, lot_in, lot_words, Stands}
-use Rattle.ledger.specs.Finding.{lots_in, lot_of_list, numbered, place_of, how_many_closed, before, is_past, is_between, closing, FirstPast, FindsFirst, NextClosing}
+use Rattle.ledger.specs.Finding.{lots_in, lot_of_list, numbered, place_of, how_many_closed, before, is_past, is_between, closing, FindsFirst, NextClosing}
 
 -- the order of closing, as facts
 abbrev Sooner : Closing → Closing → Type 0

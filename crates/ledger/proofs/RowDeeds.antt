@@ -8,7 +8,7 @@ use Rattle.ledger.specs.Layout.{now_at, count_at, lot_at, row_at, row_size, hous
 use Rattle.ledger.specs.Words.{bids_in, row_words, row_part, bids_at, row_over, with_row, writable}
 use Rattle.ledger.specs.Houses.{limits_in, limits_of, header_in, made_in, lot_in, house_in, is_house, Sound}
 use Rattle.ledger.proofs.Parts.{same_part, length_over, over_below, over_above, over_within, part_over, map_change}
-use Rattle.ledger.proofs.Places.{past, row_number, row_within, row_before, same_number, lot_within}
+use Rattle.ledger.proofs.Places.{row_number, row_within, row_before, same_number, lot_within}
 use Rattle.ledger.proofs.RowWords.{length-row_words, read_back, row_below}
 use Rattle.ledger.proofs.Houses.{FitsFacts, house_facts, lot_there, same_limits, same_header, house_by}
 use Rattle.ledger.proofs.Sounds.{same_lot, sound_by}

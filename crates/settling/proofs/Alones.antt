@@ -1,15 +1,15 @@
 -- A bidder by itself, bid by bid. Assumes nothing.
-use Rattle.std.proofs.Common.{◌≡◌, ℕ, suc, ◌+◌, ◌-◌, ◌<◌, ◌≤◌, Bool, true, false, ◌&&◌, eqb, ltb, leb, ◌⊎◌, List, [], ◌∷◌, length, get_or, drop, sym, refl, ap, ◌∙◌, subst, ap₂, inl, inr, add-zero, add-one, arith}
+use Rattle.std.proofs.Common.{◌≡◌, ℕ, suc, ◌+◌, ◌-◌, ◌<◌, ◌≤◌, Bool, true, false, ◌&&◌, eqb, leb, ◌⊎◌, List, ◌∷◌, length, get_or, drop, sym, refl, ap, ◌∙◌, inl, inr, add-zero, add-one, arith}
 use Rattle.std.proofs.lemmas.List.{drop_all, drop_more, get_or_past, length-map}
 use Rattle.std.proofs.lemmas.Bool.Decides.{nat_tests}
-use Rattle.auction.specs.Bids.{Some, Bids, Bid as Offer, no_bid, within, less, larger, pick, given, first_good, with_some}
+use Rattle.auction.specs.Bids.{Some, Bid as Offer, no_bid, within, less, larger, pick, given, first_good, with_some}
 use Rattle.bundles.specs.declared.Bid.{Bid}
 use Rattle.bundles.specs.Offers.{meant, all_meant}
 use Rattle.bundles.proofs.Picks.{pick_yes, pick_no}
 use Rattle.bundles.specs.Masks.{bits}
 use Rattle.solver.specs.Choosing.{IsTaken}
 use Rattle.solver.proofs.Chosen.{none-taken}
-use Rattle.settling.specs.Alone.{highest, alone}
+use Rattle.settling.specs.Alone.{highest}
 use Rattle.settling.proofs.Keeping.{nothing}
 
 -- from the last to the first

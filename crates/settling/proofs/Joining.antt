@@ -1,5 +1,5 @@
 -- Sets of pieces as numbers: one within another, and joined. Assumes nothing.
-use Rattle.std.proofs.Common.{◌≡◌, ℕ, zero, suc, ◌+◌, ◌-◌, ◌/◌, ◌%◌, ◌^◌, ◌<◌, ◌≤◌, min, max, ◌⊎◌, List, [], ◌∷◌, map, length, get_or, drop, set, sym, refl, ap, ◌∙◌, subst, ap₂, inl, inr, pow-suc, arith}
+use Rattle.std.proofs.Common.{◌≡◌, ℕ, zero, suc, ◌+◌, ◌-◌, ◌/◌, ◌^◌, ◌<◌, ◌≤◌, ◌⊎◌, List, [], map, length, get_or, drop, set, sym, refl, ap, ◌∙◌, subst, inl, inr, pow-suc, arith}
 use lib.Bits.{bit_and, bit_or, and_step, or_step, and_zero_l, and_self, or_comm}
 use Rattle.std.proofs.lemmas.List.{drop_all, drop_more, get_or-map, get_or_past, get_or-set_same, get_or-set_other, length-set}
 use Rattle.std.proofs.lemmas.Bool.{cases_eq, cases_lt}

@@ -1,20 +1,20 @@
 -- A bidder whose pieces nobody else wants: what it gets among all bidders is the first of its highest bids, and it pays nothing. Assumes nothing.
-use Rattle.std.proofs.Common.{◌≡◌, ℕ, ◌+◌, ◌<◌, ◌≤◌, Bool, true, false, eqb, ◌≢◌, ◌⊎◌, List, [], map, length, get_or, sym, refl, ap, ◌∙◌, subst, inl, inr, arith}
-use lib.Bits.{bit_and, and_comm}
+use Rattle.std.proofs.Common.{◌≡◌, ℕ, ◌<◌, ◌≤◌, Bool, true, false, eqb, ◌≢◌, ◌⊎◌, List, [], map, length, get_or, sym, refl, ap, ◌∙◌, subst, inl, inr, arith}
+use lib.Bits.{and_comm}
 use Rattle.std.proofs.lemmas.List.{get_or_past, length-map}
 use Rattle.std.proofs.lemmas.Bool.{cases_lt, eqb-true, eq-eqb, ne_eqb}
-use Rattle.auction.specs.Bids.{Some, Bids, within, pick, choice, pays}
+use Rattle.auction.specs.Bids.{Some, Bids, within, choice, pays}
 use Rattle.auction.specs.Faster.{LoneBidder}
 use Rattle.auction.specs.Laws.{touches, pieces_of, only, Apart, SameFor, SettledApart}
 use Rattle.auction.proofs.Groups.{only_at, settled_apart}
 use Rattle.auction.proofs.Lone.{lone_bidder}
-use Rattle.auction.proofs.Sets.{touches_comm, touches-within, touches-nothing}
+use Rattle.auction.proofs.Sets.{touches-within, touches-nothing}
 use Rattle.bundles.specs.Masks.{bits}
 use Rattle.bundles.specs.Rows.{held, all_held}
 use Rattle.bundles.specs.declared.row.Row.{Row}
 use Rattle.bundles.proofs.Picks.{pick_yes, pick_no}
 use Rattle.settling.specs.Alone.{alone, WantsApart}
-use Rattle.settling.specs.Groups.{In, AllWants, wants}
+use Rattle.settling.specs.Groups.{In, AllWants}
 use Rattle.settling.proofs.Keeping.{nothing}
 use Rattle.settling.proofs.Members.{in_within, apart_touches, pieces_at, no_pieces, bid_in}
 

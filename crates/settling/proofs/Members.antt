@@ -1,13 +1,13 @@
 -- A group of bidders by itself: what its members get and pay among all bidders is what they get and pay on their own pieces, moved together. Assumes nothing.
-use Rattle.std.proofs.Common.{◌≡◌, ℕ, zero, suc, ◌+◌, ◌-◌, ◌*◌, ◌/◌, ◌%◌, ◌^◌, ◌<◌, ◌≤◌, min, max, Bool, true, false, not, ◌&&◌, ◌||◌, eqb, ◌⊎◌, List, [], ◌∷◌, map, length, get_or, sym, refl, ap, ◌∙◌, subst, ap₂, inl, inr, pow-suc, arith, pow_mono}
-use lib.Bits.{bit_and, bit_or, and_step, and_comm, and_self}
+use Rattle.std.proofs.Common.{◌≡◌, ℕ, zero, suc, ◌/◌, ◌%◌, ◌^◌, ◌<◌, ◌≤◌, min, Bool, true, false, not, ◌&&◌, ◌||◌, eqb, ◌⊎◌, List, [], ◌∷◌, map, length, get_or, sym, refl, ap, ◌∙◌, subst, ap₂, inl, inr, pow-suc, arith, pow_mono}
+use lib.Bits.{bit_and, and_step, and_comm, and_self}
 use Rattle.std.specs.List.{range_with_len}
 use Rattle.std.proofs.lemmas.List.FromFn.{get_or-map-range_with_len, length-range_with_len}
 use Rattle.std.proofs.lemmas.List.{ext_get_or, get_or-map, get_or_past, length-map}
 use Rattle.std.proofs.lemmas.List.Sums.{count_by-le-length}
-use Rattle.std.proofs.lemmas.Bool.{cases_eq, cases_lt, eqb-true, eq-eqb, ne_eqb}
+use Rattle.std.proofs.lemmas.Bool.{cases_eq, cases_lt, eq-eqb, ne_eqb}
 use Rattle.std.proofs.lemmas.Bool.Decides.{nat_tests}
-use Rattle.auction.specs.Bids.{Some, Bids, all, within, less, pick, choice, pays, no_bid, Bid as Offer}
+use Rattle.auction.specs.Bids.{Some, Bids, all, within, pick, choice, pays, no_bid, Bid as Offer}
 use Rattle.auction.specs.Faster.{packed, packed_bid, all_packed, how_many, PackedPieces}
 use Rattle.auction.specs.Laws.{touches, pieces_of, only, shared, SameFor, SettledOnPieces}
 use Rattle.auction.proofs.Groups.{only_at, settled_on_pieces}
@@ -18,14 +18,13 @@ use Rattle.bundles.specs.Offers.{meant, all_meant}
 use Rattle.bundles.specs.Rows.{held, all_held}
 use Rattle.bundles.specs.declared.Bid.{Bid}
 use Rattle.bundles.specs.declared.row.Row.{Row}
-use Rattle.bundles.proofs.Picks.{pick_yes, pick_no}
 use Rattle.bundles.proofs.Sets.{bits_mask, mask_below, within_more, length-bits}
 use Rattle.solver.proofs.Bidders.{as_many}
 use Rattle.solver.proofs.Supersets.{upper_held}
 use Rattle.solver.specs.Sharing.{Shared}
 use Rattle.solver.specs.declared.sharing.Shares.{Shares}
 use Rattle.settling.specs.Groups.{In, wants, AllWants, member, group_bids, GroupShares}
-use Rattle.settling.specs.Packs.{packed_mask, packed_bids, packed_one, places_in}
+use Rattle.settling.specs.Packs.{packed_mask, packed_bids, places_in}
 use Rattle.settling.proofs.Joining.{in_or, in_or_left, in_trans}
 use Rattle.settling.proofs.Keeping.{nothing}
 use Rattle.settling.proofs.Packs.{head_many}

@@ -1,5 +1,5 @@
 -- No bid names a piece beyond the sixteenth, so a lot that says it has more is settled as one of sixteen. Assumes nothing.
-use Rattle.std.proofs.Common.{◌≡◌, ℕ, zero, suc, ◌+◌, ◌-◌, ◌*◌, ◌/◌, ◌%◌, ◌^◌, ◌<◌, ◌≤◌, min, Bool, true, false, ◌⊎◌, List, [], ◌∷◌, map, length, get_or, sym, refl, ap, ◌∙◌, subst, ap₂, inl, inr, pow-suc, arith}
+use Rattle.std.proofs.Common.{◌≡◌, ℕ, zero, suc, ◌+◌, ◌*◌, ◌/◌, ◌%◌, ◌^◌, ◌<◌, ◌≤◌, min, Bool, true, false, ◌⊎◌, List, [], ◌∷◌, map, length, get_or, sym, refl, ap, ◌∙◌, subst, ap₂, inl, inr, pow-suc, arith}
 use Rattle.std.proofs.lemmas.Bool.{cases_lt}
 use Rattle.auction.specs.Bids.{Some, Bids, all, within, choice, pays, no_bid, Bid as Offer}
 use Rattle.auction.specs.Faster.{packed, packed_bid, all_packed, PackedPieces}
@@ -7,7 +7,7 @@ use Rattle.auction.specs.Laws.{pieces_of}
 use Rattle.auction.proofs.Kept.{covers_itself}
 use Rattle.auction.proofs.Packed.{packed_pieces}
 use Rattle.bundles.specs.Masks.{bits}
-use Rattle.bundles.specs.Offers.{meant, all_meant}
+use Rattle.bundles.specs.Offers.{all_meant}
 use Rattle.bundles.specs.Rows.{held, all_held}
 use Rattle.bundles.specs.declared.Bid.{Bid}
 use Rattle.bundles.specs.declared.row.Row.{Row}

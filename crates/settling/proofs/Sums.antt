@@ -1,16 +1,14 @@
 -- What a lot comes to and brings, bidder by bidder. Assumes nothing.
-use Rattle.std.proofs.Common.{◌≡◌, ℕ, zero, suc, ◌+◌, ◌<◌, ◌≤◌, ◌⊎◌, List, [], ◌∷◌, length, get_or, sym, refl, ap, ◌∙◌, subst, ap₂, inl, inr, add_comm, add-one, arith}
+use Rattle.std.proofs.Common.{◌≡◌, ℕ, zero, suc, ◌+◌, ◌<◌, ◌≤◌, ◌⊎◌, List, [], ◌∷◌, length, get_or, refl, ap, ◌∙◌, ap₂, inl, inr, add_comm, add-one, arith}
 use Rattle.std.proofs.lemmas.Bool.{cases_lt}
-use Rattle.auction.specs.Bids.{Some, Bids, best, choice, given, pays, taken}
+use Rattle.auction.specs.Bids.{Some, Bids, best, choice, given, pays}
 use Rattle.auction.specs.House.{paid_by}
 use Rattle.auction.specs.Laws.{summed}
 use Rattle.auction.specs.Promise.{BestOfAll, sum_of}
 use Rattle.auction.proofs.Choice.{best_of_all}
 use Rattle.auction.proofs.Payments.{pays_below}
-use Rattle.solver.specs.Choosing.{Allocated, nothing_taken}
-use Rattle.solver.specs.Paying.{Paid}
+use Rattle.solver.specs.Choosing.{nothing_taken}
 use Rattle.solver.specs.Sharing.{Shared}
-use Rattle.solver.specs.declared.choosing.Taken.{Taken}
 use Rattle.solver.specs.declared.sharing.Shares.{Shares}
 
 pub summed-more : (n : ℕ) (f : ℕ → ℕ) → summed (n + 1) f ≡ summed n f + f n

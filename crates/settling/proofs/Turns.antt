@@ -1,11 +1,11 @@
 -- Going from bidder to bidder: alone, in a group that is settled already, or in one that is settled now. Assumes nothing.
-use Rattle.std.proofs.Common.{◌≡◌, ℕ, zero, suc, ◌+◌, ◌-◌, ◌*◌, ◌/◌, ◌%◌, ◌^◌, ◌<◌, ◌≤◌, min, max, Bool, true, false, not, eqb, ◌≢◌, ◌⊎◌, List, [], length, get_or, replicate, sym, refl, ap, ◌∙◌, subst, inl, inr, mul-le-mul_left, pow-suc, arith}
-use native.Mathlib.Nat.{pow-le-pow_right, zero-div}
-use lib.Bits.{bit_and, bit_or, and_step, or_step, and_zero_l, and_zero_r, and_le_l, and_le_r}
+use Rattle.std.proofs.Common.{◌≡◌, ℕ, zero, suc, ◌+◌, ◌*◌, ◌/◌, ◌%◌, ◌^◌, ◌<◌, ◌≤◌, Bool, true, false, not, eqb, ◌≢◌, ◌⊎◌, List, [], length, get_or, replicate, sym, ap, ◌∙◌, subst, inl, inr, mul-le-mul_left, pow-suc, arith}
+use native.Mathlib.Nat.{pow-le-pow_right}
+use lib.Bits.{bit_and, bit_or, and_step, or_step, and_zero_l, and_zero_r, and_le_r}
 use Rattle.std.proofs.lemmas.List.{get_or_past, get_or-replicate}
-use Rattle.std.proofs.lemmas.Bool.{cases_Bool, cases_eq, cases_lt, eqb-true, eq-eqb, ne_eqb}
+use Rattle.std.proofs.lemmas.Bool.{cases_Bool, cases_eq, cases_lt, eq-eqb, ne_eqb}
 use Rattle.std.proofs.lemmas.Bool.Decides.{nat_tests}
-use Rattle.auction.specs.Bids.{Some, Bids, choice, pays, pick}
+use Rattle.auction.specs.Bids.{Some, choice, pays, pick}
 use Rattle.auction.specs.Faster.{how_many}
 use Rattle.bundles.specs.Masks.{bits}
 use Rattle.bundles.specs.Rows.{all_held}
@@ -13,11 +13,10 @@ use Rattle.bundles.specs.declared.row.Row.{Row}
 use Rattle.solver.specs.Choosing.{IsTaken, nothing_taken}
 use Rattle.solver.specs.Paying.{RoomToPay}
 use Rattle.solver.specs.Sharing.{Shared}
-use Rattle.solver.specs.Welfare.{table_at}
 use Rattle.solver.specs.declared.choosing.Taken.{Taken}
 use Rattle.solver.specs.declared.sharing.Shares.{Shares}
 use Rattle.solver.proofs.Bidders.{as_many}
-use Rattle.settling.specs.Apart.{RightFor, SameShare, Whole, WithGroup}
+use Rattle.settling.specs.Apart.{RightFor, Whole, WithGroup}
 use Rattle.settling.specs.Groups.{In, member, GroupPieces}
 use Rattle.settling.specs.Packs.{places_in}
 use Rattle.settling.proofs.Aparts.{with_share, put_whole, put-others, put_right, same_right}

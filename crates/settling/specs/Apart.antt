@@ -4,7 +4,6 @@ use Rattle.auction.specs.Bids.{Some, Bids, choice, pays}
 use Rattle.bundles.specs.Rows.{all_held}
 use Rattle.bundles.specs.declared.row.Row.{Row}
 use Rattle.solver.specs.Choosing.{IsTaken, nothing_taken}
-use Rattle.solver.specs.declared.choosing.Taken.{Taken}
 use Rattle.solver.specs.declared.sharing.Shares.{Shares}
 use Rattle.settling.specs.Groups.{member}
 

@@ -1,8 +1,8 @@
 -- The tables of all bidders, one made of the next, from the last one on. Assumes nothing.
-use Rattle.std.proofs.Common.{◌≡◌, ℕ, ◌+◌, ◌-◌, ◌*◌, ◌^◌, ◌<◌, ◌≤◌, ◌⊎◌, List, [], ◌∷◌, length, get_or, drop, sym, refl, ap, ◌∙◌, subst, ap₂, inl, inr, mul-le-mul_right, add-mul, one-mul, arith}
+use Rattle.std.proofs.Common.{◌≡◌, ℕ, ◌+◌, ◌-◌, ◌*◌, ◌^◌, ◌<◌, ◌≤◌, ◌⊎◌, List, [], length, get_or, drop, sym, ap, ◌∙◌, subst, inl, inr, mul-le-mul_right, add-mul, one-mul, arith}
 use Rattle.std.proofs.lemmas.List.{drop_all, drop_more, get_or-map, length-map}
 use Rattle.std.proofs.lemmas.Bool.{cases_eq}
-use Rattle.auction.specs.Bids.{Some, Bids, best, with_some}
+use Rattle.auction.specs.Bids.{Bids, best}
 use Rattle.auction.specs.Promise.{BestOfAll}
 use Rattle.auction.proofs.Choice.{best_of_all}
 use Rattle.bundles.specs.Masks.{bits}

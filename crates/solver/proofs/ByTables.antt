@@ -1,13 +1,13 @@
 -- A group of bidders settled by tables of the bids that matter. Assumes nothing.
-use Rattle.std.proofs.Common.{◌≡◌, ℕ, ◌+◌, ◌-◌, ◌*◌, ◌<◌, ◌≤◌, List, [], length, get_or, drop, sym, refl, ap, ◌∙◌, subst, ap₂, arith}
+use Rattle.std.proofs.Common.{◌≡◌, ℕ, ◌+◌, ◌-◌, ◌<◌, ◌≤◌, List, [], length, get_or, drop, sym, ap, ◌∙◌, subst, ap₂, arith}
 use Rattle.std.proofs.lemmas.List.{get_or-drop, length-drop}
-use Rattle.auction.specs.Bids.{Some, Bids, best, without, pays, taken}
+use Rattle.auction.specs.Bids.{Some, Bids, best, without}
 use Rattle.auction.specs.Faster.{Kept, KeptBest}
 use Rattle.auction.proofs.Kept.{kept_best}
 use Rattle.bundles.specs.Masks.{bits}
 use Rattle.bundles.specs.Rows.{all_held}
 use Rattle.bundles.specs.declared.row.Row.{Row}
-use Rattle.solver.specs.Welfare.{FilledFrom, Room, table_at}
+use Rattle.solver.specs.Welfare.{FilledFrom, Room}
 use Rattle.solver.specs.Choosing.{Solved, Allocated, nothing_taken}
 use Rattle.solver.specs.Paying.{Charged, Paid, RoomToPay}
 use Rattle.solver.specs.Sharing.{AllKept}

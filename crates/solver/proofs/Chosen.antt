@@ -1,20 +1,17 @@
 -- What a bidder gets, read off the tables: the number of its bid, its price and what is left. Assumes nothing.
-use Rattle.std.proofs.Common.{◌≡◌, ℕ, suc, ◌+◌, ◌*◌, ◌^◌, ◌<◌, ◌≤◌, List, [], ◌∷◌, length, get_or, drop, sym, refl, ap, ◌∙◌, subst, ap₂, add-one, arith}
-use lib.Bits.{bit_and, and_zero_r}
+use Rattle.std.proofs.Common.{◌≡◌, ℕ, ◌+◌, ◌*◌, ◌^◌, ◌<◌, ◌≤◌, List, [], length, get_or, drop, sym, refl, ap, ◌∙◌, subst, ap₂, add-one, arith}
+use lib.Bits.{and_zero_r}
 use Rattle.std.proofs.lemmas.List.{drop_more, get_or-map}
 use Rattle.auction.specs.Bids.{Some, Bids, no_bid, less, best, choice, given, first_good, Bid as Offer}
 use Rattle.auction.proofs.Sets.{less-nothing}
 use Rattle.bundles.specs.declared.Bid.{Bid}
-use Rattle.bundles.specs.declared.row.Row.{Row}
 use Rattle.bundles.specs.Masks.{bits}
 use Rattle.bundles.specs.Offers.{meant, all_meant}
-use Rattle.bundles.specs.Rows.{all_held}
 use Rattle.bundles.proofs.Sets.{less-bits}
 use Rattle.solver.specs.Tables.{sum_at, table_words, Holds, Below}
 use Rattle.solver.specs.Welfare.{table_at, Room}
 use Rattle.solver.specs.Choosing.{Solved, IsTaken}
-use Rattle.solver.specs.declared.choosing.Taken.{Taken}
-use Rattle.solver.proofs.Bidders.{as_many, table_past}
+use Rattle.solver.proofs.Bidders.{table_past}
 use Rattle.solver.proofs.Goods.{nothing}
 
 -- the first of those that are left to choose

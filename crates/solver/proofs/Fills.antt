@@ -1,5 +1,5 @@
 -- A bidder's table made of the next one's, bid by bid from the last one on. Assumes nothing.
-use Rattle.std.proofs.Common.{◌≡◌, ℕ, ◌+◌, ◌-◌, ◌*◌, ◌^◌, ◌<◌, ◌≤◌, List, [], ◌∷◌, get_or, sym, refl, ap, ◌∙◌, ap₂, add_assoc, arith}
+use Rattle.std.proofs.Common.{◌≡◌, ℕ, ◌+◌, ◌-◌, ◌*◌, ◌^◌, ◌<◌, ◌≤◌, List, [], ◌∷◌, get_or, sym, ap, ◌∙◌, ap₂, add_assoc, arith}
 use Rattle.auction.specs.Bids.{Some, Bid, Bids, with_some}
 use Rattle.solver.specs.Tables.{sum_at, table_words, Holds, Below, Only, TwoTables, Offered, Filled}
 use Rattle.solver.proofs.Offers.{only_same, sum_kept}

@@ -1,5 +1,5 @@
 -- What the others could have had without a bidder, from the table of those before it and of those behind it. Assumes nothing.
-use Rattle.std.proofs.Common.{◌≡◌, ℕ, zero, suc, ◌+◌, ◌-◌, ◌/◌, ◌%◌, ◌^◌, ◌<◌, ◌≤◌, min, true, List, [], length, take, drop, sym, refl, ap, ◌∙◌, subst, ap₂, pow-suc, arith}
+use Rattle.std.proofs.Common.{◌≡◌, ℕ, zero, suc, ◌+◌, ◌-◌, ◌/◌, ◌^◌, ◌<◌, ◌≤◌, true, List, [], length, take, drop, sym, ap, ◌∙◌, subst, ap₂, pow-suc, arith}
 use lib.Bits.{bit_and, and_comm, and_le_l, and_step, and_zero_l}
 use Rattle.std.proofs.lemmas.Bool.{eq-eqb, eqb-true}
 use Rattle.auction.specs.Bids.{Some, Bids, less, within, best, without}
@@ -9,7 +9,7 @@ use Rattle.auction.proofs.Joined.{joined}
 use Rattle.auction.proofs.Sets.{less-nothing, less_back, less-within, within_back, length-less}
 use Rattle.bundles.specs.Masks.{bits, mask_of}
 use Rattle.bundles.proofs.Sets.{less-bits, within-bits, bits_mask, mask_below, length-bits}
-use Rattle.solver.specs.Tables.{sum_at, Holds}
+use Rattle.solver.specs.Tables.{Holds}
 use Rattle.solver.specs.Paying.{together, Joined}
 
 -- what a set has of what a set has

@@ -1,15 +1,15 @@
 -- What each bidder pays, from the first on: beside the tables from the last bidder on there is one of those before the bidder. Assumes nothing.
-use Rattle.std.proofs.Common.{◌≡◌, ℕ, ◌+◌, ◌-◌, ◌*◌, ◌^◌, ◌<◌, ◌≤◌, ◌⊎◌, List, [], ◌∷◌, length, get_or, take, drop, set, replicate, sym, refl, ap, ◌∙◌, subst, ap₂, inl, inr, zero-mul, arith}
+use Rattle.std.proofs.Common.{◌≡◌, ℕ, ◌+◌, ◌-◌, ◌*◌, ◌^◌, ◌<◌, ◌≤◌, ◌⊎◌, List, [], length, get_or, take, drop, set, replicate, sym, ap, ◌∙◌, subst, ap₂, inl, inr, zero-mul, arith}
 use Rattle.std.proofs.lemmas.List.{get_or_past, get_or-replicate, get_or-set_same, get_or-set_other, length-set}
 use Rattle.std.proofs.lemmas.Bool.{cases_eq, cases_lt}
-use Rattle.auction.specs.Bids.{Some, Bids, best, without, with_some}
+use Rattle.auction.specs.Bids.{Some, Bids, best, without}
 use Rattle.auction.specs.Faster.{OneMore}
 use Rattle.auction.proofs.Joined.{one_more}
 use Rattle.bundles.specs.Masks.{bits}
 use Rattle.bundles.specs.Rows.{all_held}
 use Rattle.bundles.specs.declared.row.Row.{Row}
 use Rattle.solver.specs.Tables.{sum_at, table_words, Holds, Below, Only, TwoTables, Filled}
-use Rattle.solver.specs.Welfare.{table_at, Room}
+use Rattle.solver.specs.Welfare.{table_at}
 use Rattle.solver.specs.Choosing.{Solved, nothing_taken}
 use Rattle.solver.specs.Paying.{Joined, RoomToPay, Charged}
 use Rattle.solver.specs.declared.choosing.Taken.{Taken}

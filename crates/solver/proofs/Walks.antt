@@ -1,8 +1,8 @@
 -- Going from bidder to bidder, each choosing from what those before it leave. Assumes nothing.
-use Rattle.std.proofs.Common.{◌≡◌, ℕ, zero, suc, ◌+◌, ◌-◌, ◌*◌, ◌/◌, ◌%◌, ◌^◌, ◌<◌, ◌≤◌, true, eqb, ◌⊎◌, List, [], ◌∷◌, length, get_or, drop, set, replicate, sym, refl, ap, ◌∙◌, subst, ap₂, inl, inr, add-zero, pow-suc, arith}
+use Rattle.std.proofs.Common.{◌≡◌, ℕ, zero, suc, ◌+◌, ◌/◌, ◌%◌, ◌^◌, ◌<◌, ◌≤◌, ◌⊎◌, List, [], ◌∷◌, length, get_or, drop, set, replicate, sym, refl, ap, ◌∙◌, subst, ap₂, inl, inr, add-zero, pow-suc, arith}
 use Rattle.std.proofs.lemmas.List.{drop_more, drop-drop, get_or-drop, get_or_past, get_or-replicate, get_or-set_same, get_or-set_other, length-set}
 use Rattle.std.proofs.lemmas.Bool.{cases_eq, cases_lt}
-use Rattle.auction.specs.Bids.{Some, Bids, all, less, best, choice, given, first_good}
+use Rattle.auction.specs.Bids.{Some, Bids, all, less, choice, given}
 use Rattle.bundles.specs.Masks.{bits}
 use Rattle.solver.specs.Choosing.{IsTaken, Allocated, nothing_taken}
 use Rattle.solver.specs.declared.choosing.Taken.{Taken}

@@ -1,5 +1,5 @@
 -- Who gets what, read off filled tables. Assumes nothing: these are definitions.
-use Rattle.std.specs.Prelude.{◌≡◌, ℕ, ◌+◌, ◌*◌, ◌<◌, ◌≤◌, Bool, ◌&&◌, List, [], length, drop, Some as there, None, Option, ◌==◌, slice_index, slice_index_or}
+use Rattle.std.specs.Prelude.{◌≡◌, ℕ, ◌+◌, ◌<◌, ◌≤◌, Bool, ◌&&◌, List, [], length, drop, Some as there, None, Option, ◌==◌, slice_index, slice_index_or}
 use Rattle.auction.specs.Bids.{Some, Bid, Bids, best, within, less, choice, given}
 use Rattle.bundles.specs.Masks.{bits}
 use Rattle.solver.specs.Tables.{Holds, Below}

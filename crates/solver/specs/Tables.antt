@@ -1,5 +1,5 @@
 -- The solver's tables in lent words: for each set of pieces a sum of 64 bits as two words, low then high. Assumes nothing: these are definitions.
-use Rattle.std.specs.Prelude.{◌≡◌, ℕ, ◌+◌, ◌-◌, ◌*◌, ◌^◌, ◌<◌, ◌≤◌, Bool, ◌≢◌, ◌⊎◌, List, length, slice_index}
+use Rattle.std.specs.Prelude.{◌≡◌, ℕ, ◌+◌, ◌*◌, ◌^◌, ◌<◌, ◌≤◌, ◌≢◌, ◌⊎◌, List, slice_index}
 use Rattle.auction.specs.Bids.{Some, Bid, Bids, larger, pick, within, less, with_some}
 use Rattle.bundles.specs.Masks.{bits}
 

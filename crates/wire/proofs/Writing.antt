@@ -1,9 +1,8 @@
 -- Bytes put into a row of bytes, one after the other. Assumes nothing.
-use Rattle.std.proofs.Common.{◌≡◌, ℕ, zero, suc, ◌+◌, ◌-◌, ◌*◌, ◌/◌, ◌%◌, ◌<◌, ◌≤◌, List, [], ◌∷◌, ◌++◌, map, length, get_or, take, drop, set, sym, refl, ap, ◌∙◌, subst, add-zero, arith}
+use Rattle.std.proofs.Common.{◌≡◌, ℕ, suc, ◌+◌, ◌*◌, ◌/◌, ◌%◌, ◌<◌, ◌≤◌, List, [], ◌∷◌, ◌++◌, length, get_or, take, drop, set, sym, refl, ap, ◌∙◌, add-zero, arith}
 use borrow.Rule.Slice.PartMut.{put_mid}
 use Rattle.std.proofs.lemmas.List.{append_assoc, append-nil, drop-drop, take_at, drop_at, take-append-drop, length-append, length-take-le, length-drop, set_split, map_more, length-map}
-use Rattle.auction.specs.Bids.{Bid, Bids}
-use Rattle.bundles.specs.Masks.{bits, mask_of}
+use Rattle.auction.specs.Bids.{Bids}
 use Rattle.bundles.specs.Offers.{meant, all_meant}
 use Rattle.bundles.specs.declared.Bid.{Bid as Value}
 use Rattle.bundles.proofs.Sets.{mask_bits}

@@ -1,6 +1,6 @@
 -- Answers as bytes: how an answer is written, and which answer a row of bytes is or where it ceases to be one. Assumes nothing: these are definitions.
 -- An answer is a byte, its kind, and its numbers of eight bytes each, low byte first; bids come with their count before them in a byte, sixteen at most.
-use Rattle.std.specs.Prelude.{ℕ, ◌+◌, ◌*◌, min, ◌&&◌, ◌||◌, List, [], ◌∷◌, ◌++◌, length, drop, ◌==◌, nat_le, slice_index}
+use Rattle.std.specs.Prelude.{ℕ, ◌+◌, ◌*◌, min, ◌&&◌, ◌||◌, List, ◌∷◌, ◌++◌, length, drop, ◌==◌, nat_le, slice_index}
 use Rattle.auction.specs.Bids.{pick}
 use Rattle.auction.specs.House.{Answer, refused, number, two, list}
 use Rattle.wire.specs.Bytes.{spelled, number_in, bids_bytes, bids_in}

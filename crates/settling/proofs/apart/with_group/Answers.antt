@@ -1,9 +1,8 @@
-use Rattle.std.proofs.Common.{◌≡◌, ℕ, ◌+◌, ◌<◌, Bool, true, false, not, length, get_or, sym, ap, ◌∙◌, subst, arith, rules}
+use Rattle.std.proofs.Common.{◌+◌, ◌<◌, not, length, get_or, sym, ap, subst, arith}
 use lib.Bits.{bit_and}
 use Rattle.std.proofs.lemmas.Bool.{eq-eqb, ne_eqb}
 use Rattle.solver.specs.declared.sharing.Shares.{Shares}
 use Rattle.settling.specs.Apart.{Whole}
-use Rattle.settling.specs.Groups.{member}
 use Rattle.settling.proofs.Aparts.{PlacingAny, placing_none, placed-all, put_whole, any_past, any-more}
 use Rattle.settling.proofs.apart.with_group.Goals as goal
 use Rattle.settling.proofs.apart.with_group.Goals.{then-wants-j-ne0, else-wants-j-ne0}

@@ -1,9 +1,9 @@
-use Rattle.std.proofs.Common.{◌≡◌, ℕ, ◌≤◌, List, length, sym, ap, ◌∙◌, subst, arith}
+use Rattle.std.proofs.Common.{List, subst}
 use Rattle.auction.specs.Faster.{Kept}
 use Rattle.bundles.specs.Offers.{all_meant}
 use Rattle.bundles.specs.Rows.{held}
 use Rattle.bundles.specs.declared.Bid.{Bid}
-use Rattle.settling.proofs.Keeping.{held_short, kept_trans}
+use Rattle.settling.proofs.Keeping.{kept_trans}
 use Rattle.settling.proofs.covering.matter.Goals as goal
 
 pub returns : goal.returns

@@ -1,4 +1,4 @@
-use Rattle.std.proofs.Common.{◌≡◌, ℕ, ◌+◌, sym, subst, rules}
+use Rattle.std.proofs.Common.{ℕ, ◌+◌, sym, subst, rules}
 use Rattle.settling.proofs.Joining.{Growing, growing_none, growing_past, growing_join}
 use Rattle.settling.proofs.grouping.grow.Goals as goal
 use Rattle.settling.proofs.grouping.grow.Goals.{then-wants-i-ne0, else-wants-i-ne0}

@@ -1,4 +1,4 @@
-use Rattle.std.proofs.Common.{◌≡◌, ℕ, ◌-◌, get_or, drop, sym, ap, ◌∙◌, arith, rules}
+use Rattle.std.proofs.Common.{◌≡◌, ℕ, ◌-◌, get_or, drop, ap, ◌∙◌, arith, rules}
 use lib.Bits.{bit_or}
 use Rattle.settling.specs.Groups.{wants}
 use Rattle.settling.proofs.Keeping.{nothing}

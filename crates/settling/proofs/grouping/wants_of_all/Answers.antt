@@ -1,4 +1,4 @@
-use Rattle.std.proofs.Common.{◌≡◌, ℕ, ◌+◌, length, set, sym, subst, arith, rules}
+use Rattle.std.proofs.Common.{ℕ, ◌+◌, set, sym, subst, arith}
 use Rattle.settling.proofs.Joining.{Wanting, wanting_more}
 use Rattle.settling.proofs.grouping.wants_of_all.Goals as goal
 

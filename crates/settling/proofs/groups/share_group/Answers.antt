@@ -1,15 +1,14 @@
-use Rattle.std.proofs.Common.{◌≡◌, ℕ, ◌-◌, ◌^◌, ◌<◌, ◌≤◌, List, length, take, sym, ap, ◌∙◌, subst, ap₂, arith}
+use Rattle.std.proofs.Common.{◌≡◌, ℕ, ◌-◌, ◌^◌, ◌<◌, ◌≤◌, List, length, take, sym, ap, ◌∙◌, subst, arith}
 use native.Mathlib.Nat.{sub-zero}
 use Rattle.std.proofs.lemmas.List.{length-take-le}
-use Rattle.auction.specs.Bids.{Some, Bids}
+use Rattle.auction.specs.Bids.{Bids}
 use Rattle.bundles.specs.Masks.{bits}
 use Rattle.bundles.specs.Rows.{all_held}
 use Rattle.bundles.specs.declared.row.Row.{Row}
 use Rattle.solver.specs.Paying.{RoomToPay}
 use Rattle.solver.specs.Sharing.{AllKept, Shared}
-use Rattle.solver.specs.declared.sharing.Shares.{Shares}
-use Rattle.settling.specs.Groups.{AllWants, Closed, GroupShares, group_bids}
-use Rattle.settling.specs.Packs.{packed_mask, places_in}
+use Rattle.settling.specs.Groups.{group_bids}
+use Rattle.settling.specs.Packs.{places_in}
 use Rattle.settling.proofs.Members.{part_small, group_shared}
 use Rattle.settling.proofs.groups.share_group.Goals as goal
 

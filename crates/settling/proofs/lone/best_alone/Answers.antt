@@ -1,5 +1,5 @@
-use Rattle.std.proofs.Common.{◌≡◌, ℕ, ◌≤◌, List, length, sym, ap, ◌∙◌, arith, rules}
-use Rattle.auction.specs.Bids.{Bids, first_good}
+use Rattle.std.proofs.Common.{◌≡◌, ℕ, List, sym, ap, ◌∙◌, rules}
+use Rattle.auction.specs.Bids.{first_good}
 use Rattle.bundles.specs.Masks.{bits}
 use Rattle.bundles.specs.Offers.{all_meant}
 use Rattle.bundles.specs.declared.Bid.{Bid}

@@ -1,4 +1,4 @@
-use Rattle.std.proofs.Common.{◌≡◌, ℕ, drop, sym, ap, ◌∙◌, arith, rules}
+use Rattle.std.proofs.Common.{◌≡◌, ℕ, drop, ap, ◌∙◌, arith, rules}
 use Rattle.bundles.specs.Masks.{bits}
 use Rattle.bundles.specs.Offers.{all_meant}
 use Rattle.settling.specs.Alone.{highest}

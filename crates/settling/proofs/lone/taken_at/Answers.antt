@@ -1,6 +1,5 @@
-use Rattle.std.proofs.Common.{◌≡◌, ℕ, ◌+◌, ◌-◌, ◌<◌, List, length, get_or, sym, ap, ◌∙◌, subst, inl, inr, arith, rules}
+use Rattle.std.proofs.Common.{◌≡◌, ℕ, ◌+◌, ◌-◌, List, get_or, subst, inl, inr, arith}
 use Rattle.bundles.specs.Offers.{all_meant}
-use Rattle.bundles.specs.Rows.{held}
 use Rattle.bundles.specs.declared.Bid.{Bid}
 use Rattle.solver.specs.Choosing.{IsTaken}
 use Rattle.solver.proofs.Chosen.{taken_there}

@@ -1,6 +1,5 @@
-use Rattle.std.proofs.Common.{◌≡◌, ℕ, ◌+◌, ◌^◌, ◌<◌, min, length, sym, ap, ◌∙◌, subst, arith}
-use Rattle.auction.specs.Bids.{Some, all}
-use Rattle.bundles.specs.Masks.{bits}
+use Rattle.std.proofs.Common.{ℕ, ◌+◌, ◌^◌, length, sym, ap, ◌∙◌, subst, arith}
+use Rattle.auction.specs.Bids.{Some}
 use Rattle.bundles.specs.Rows.{all_held}
 use Rattle.solver.specs.Paying.{RoomToPay}
 use Rattle.solver.specs.Sharing.{Shared}

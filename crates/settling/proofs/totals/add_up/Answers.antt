@@ -1,4 +1,4 @@
-use Rattle.std.proofs.Common.{◌≡◌, ℕ, ◌+◌, ◌*◌, ◌≤◌, get_or, sym, refl, ap, ◌∙◌, ap₂, arith}
+use Rattle.std.proofs.Common.{ℕ, ◌+◌, get_or, sym, refl, ap, ◌∙◌, ap₂, arith}
 use Rattle.auction.specs.Laws.{summed}
 use Rattle.solver.specs.Choosing.{nothing_taken}
 use Rattle.settling.proofs.Sums.{summed-more}

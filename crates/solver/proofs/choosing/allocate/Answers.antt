@@ -1,4 +1,4 @@
-use Rattle.std.proofs.Common.{refl, arith, rules}
+use Rattle.std.proofs.Common.{refl, arith}
 use Rattle.bundles.specs.Masks.{bits}
 use Rattle.bundles.specs.Rows.{all_held}
 use Rattle.solver.proofs.Bidders.{as_many}

@@ -1,4 +1,4 @@
-use Rattle.std.proofs.Common.{◌≡◌, ◌+◌, [], length, get_or, drop, sym, refl, ap, ◌∙◌, subst, arith, rules}
+use Rattle.std.proofs.Common.{◌+◌, [], length, get_or, drop, refl, ap, ◌∙◌, subst, arith}
 use Rattle.auction.specs.Bids.{Bids, choice}
 use Rattle.bundles.specs.Masks.{bits}
 use Rattle.bundles.specs.Offers.{all_meant}

@@ -1,5 +1,5 @@
-use Rattle.std.proofs.Common.{sym, ◌∙◌, arith, rules}
-use Rattle.solver.proofs.Goods.{Passed, found_good, passed_more, passed_all}
+use Rattle.std.proofs.Common.{sym, ◌∙◌, rules}
+use Rattle.solver.proofs.Goods.{found_good, passed_more, passed_all}
 use Rattle.solver.proofs.choosing.find_good.Goals as goal
 
 pub returns-then-is_good : goal.returns-then-is_good

@@ -1,5 +1,5 @@
-use Rattle.std.proofs.Common.{◌≡◌, ℕ, ◌+◌, ◌-◌, Bool, eqb, sym, ap, ◌∙◌, subst, ap₂, arith, rules}
-use lib.Bits.{bit_and, and_le_l, and_le_r}
+use Rattle.std.proofs.Common.{◌≡◌, ℕ, ◌+◌, ◌-◌, eqb, sym, ap, ◌∙◌, subst, ap₂, arith, rules}
+use lib.Bits.{bit_and, and_le_l}
 use Rattle.solver.specs.Tables.{sum_at}
 use Rattle.solver.proofs.Goods.{good-fits, good_misses}
 use Rattle.solver.proofs.choosing.is_good.Goals as goal

@@ -1,4 +1,4 @@
-use Rattle.std.proofs.Common.{◌≡◌, ℕ, ◌-◌, ap, ◌∙◌, arith, rules}
+use Rattle.std.proofs.Common.{ℕ, ◌-◌, ap, ◌∙◌, arith, rules}
 use lib.Bits.{bit_and, and_le_l}
 use Rattle.bundles.specs.Masks.{bits}
 use Rattle.bundles.proofs.Sets.{less-bits}

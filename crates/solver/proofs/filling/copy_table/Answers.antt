@@ -1,4 +1,4 @@
-use Rattle.std.proofs.Common.{length, arith, rules}
+use Rattle.std.proofs.Common.{length, arith}
 use Rattle.solver.proofs.Fills.{copied}
 use Rattle.solver.proofs.filling.copy_table.Goals as goal
 

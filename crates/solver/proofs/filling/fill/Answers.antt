@@ -3,7 +3,7 @@ use Rattle.std.proofs.lemmas.List.{drop_all, drop_more}
 use Rattle.bundles.specs.declared.Bid.{Bid}
 use Rattle.bundles.specs.Offers.{all_meant}
 use Rattle.solver.specs.Tables.{Filled}
-use Rattle.solver.proofs.Fills.{below_kept, filled_still, filled_since, filled_more}
+use Rattle.solver.proofs.Fills.{filled_still, filled_since, filled_more}
 use Rattle.solver.proofs.filling.fill.Goals as goal
 
 -- what a slice has past its end

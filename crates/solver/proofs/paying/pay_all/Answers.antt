@@ -1,8 +1,8 @@
-use Rattle.std.proofs.Common.{◌≡◌, ℕ, ◌+◌, ◌-◌, ◌^◌, ◌<◌, [], length, get_or, sym, refl, ap, ◌∙◌, subst, arith, rules}
+use Rattle.std.proofs.Common.{◌≡◌, ℕ, ◌+◌, ◌<◌, length, sym, refl, ap, ◌∙◌, subst, arith}
 use Rattle.auction.specs.Bids.{Bids}
 use Rattle.bundles.specs.Offers.{all_meant}
 use Rattle.bundles.specs.Rows.{all_held}
-use Rattle.solver.specs.Tables.{Filled, sum_at}
+use Rattle.solver.specs.Tables.{Filled}
 use Rattle.solver.specs.Welfare.{table_at}
 use Rattle.solver.proofs.Bidders.{as_many, bids_there}
 use Rattle.solver.proofs.Payments.{room_to_pay_there, paying_none, places_fit, front_low, next_there, whole_is, charge_is, paying_more, charged_all}

@@ -1,11 +1,10 @@
-use Rattle.std.proofs.Common.{◌≡◌, ℕ, ◌≤◌, List, length, sym, refl, subst, arith}
+use Rattle.std.proofs.Common.{◌≡◌, ℕ, ◌≤◌, List, length, refl, subst, arith}
 use Rattle.bundles.specs.Masks.{bits}
 use Rattle.bundles.specs.Rows.{all_held}
 use Rattle.bundles.specs.declared.row.Row.{Row}
 use Rattle.solver.specs.Choosing.{Solved}
 use Rattle.solver.specs.Paying.{RoomToPay}
-use Rattle.solver.specs.Sharing.{AllKept}
-use Rattle.solver.specs.Welfare.{FilledFrom, Room}
+use Rattle.solver.specs.Welfare.{FilledFrom}
 use Rattle.solver.proofs.Bidders.{as_many}
 use Rattle.solver.proofs.ByTables.{room_to_fill, kept_many, solved_by, solved_all, paid_as}
 use Rattle.solver.proofs.sharing.share_out.Goals as goal

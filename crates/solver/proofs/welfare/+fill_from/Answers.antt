@@ -1,11 +1,9 @@
-use Rattle.std.proofs.Common.{◌≡◌, ℕ, ◌+◌, ◌<◌, ◌≤◌, List, length, sym, ap, ◌∙◌, subst, arith}
-use Rattle.std.proofs.lemmas.List.{length-map}
+use Rattle.std.proofs.Common.{ℕ, ◌+◌, ◌<◌, length, sym, ap, ◌∙◌, subst, arith}
 use Rattle.auction.specs.Bids.{Bids}
-use Rattle.bundles.specs.declared.row.Row.{Row}
 use Rattle.bundles.specs.Offers.{all_meant}
 use Rattle.bundles.specs.Rows.{all_held}
 use Rattle.solver.specs.Tables.{Below, Filled, Holds, Only, TwoTables}
-use Rattle.solver.specs.Welfare.{Room, table_at}
+use Rattle.solver.specs.Welfare.{table_at}
 use Rattle.solver.proofs.Bidders.{as_many, bids_there, room_there, filled_none, filled_one_more, tables_fit}
 use Rattle.solver.proofs.welfare.+fill_from.Goals as goal
 

@@ -1,4 +1,4 @@
-use Rattle.std.proofs.Common.{drop, sym, ap, ◌∙◌, subst}
+use Rattle.std.proofs.Common.{drop, sym, ap, ◌∙◌}
 use Rattle.wire.specs.Bytes.{bid_in}
 use Rattle.wire.proofs.SixBytes.{bid-at, bid-read}
 use Rattle.wire.proofs.bytes.bid_at.Goals as goal

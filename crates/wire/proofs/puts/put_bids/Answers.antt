@@ -1,4 +1,4 @@
-use Rattle.std.proofs.Common.{sym, refl, ◌∙◌, arith}
+use Rattle.std.proofs.Common.{sym, refl, ◌∙◌}
 use Rattle.std.proofs.lemmas.List.{take_all}
 use Rattle.wire.specs.Bytes.{bids_bytes}
 use Rattle.wire.proofs.Writing.{put-none, put-bids-more}

@@ -1,4 +1,4 @@
-use Rattle.std.proofs.Common.{sym, ◌∙◌, arith}
+use Rattle.std.proofs.Common.{◌∙◌, arith}
 use Rattle.wire.proofs.Spelling.{length-spelled}
 use Rattle.wire.proofs.Writing.{put_part, spelled_4}
 use Rattle.wire.proofs.puts.put_u32.Goals as goal

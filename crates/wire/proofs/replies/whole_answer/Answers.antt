@@ -1,4 +1,3 @@
-use Rattle.std.proofs.Common.{◌+◌, ◌*◌, ◌≤◌, length, sym, ◌∙◌, subst}
 use Rattle.wire.proofs.Heard.{row_room}
 use Rattle.wire.proofs.replies.whole_answer.Goals as goal
 

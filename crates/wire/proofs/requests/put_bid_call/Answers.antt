@@ -1,4 +1,4 @@
-use Rattle.std.proofs.Common.{ℕ, ◌<◌, refl, arith, rules}
+use Rattle.std.proofs.Common.{refl, arith}
 use Rattle.wire.specs.Bytes.{AllBytes}
 use Rattle.wire.proofs.Calls.{bid_call_written, length-bid-call}
 use Rattle.wire.proofs.requests.put_bid_call.Goals as goal
