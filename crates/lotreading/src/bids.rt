@@ -19,7 +19,7 @@ pub fn bidder(reader: &mut Reader<'_>, pieces: u32) -> Result<Row, Expected>
     ensures { finds_as (λ row. all_meant (held row)) result reader.new ≡ bidder_in pieces (ahead reader.old) }
 {
     if reader.at(b'n') {
-        let Ok(()) = reader.spelt(b"nothing") else {
+        let Ok(()) = reader.spelt(b"nothing", ()) else {
             return Err(Expected::Bidder);
         };
         return Ok(Row::new());
@@ -61,7 +61,7 @@ fn another(reader: &mut Reader<'_>, may: bool) -> Result<bool, Expected>
     if !may {
         return Err(Expected::SixteenBids);
     }
-    let Ok(()) = reader.spelt(b"or") else {
+    let Ok(()) = reader.spelt(b"or", ()) else {
         return Err(Expected::OrOrEnd);
     };
     let Ok(()) = gap(reader) else {

@@ -17,7 +17,7 @@ module _ {X : Type 0} (n : ℕ) where
   then-within (got w left) next h k = k w left h
   then-within (stuck left) next h k = h
 
-  pick-within : (t : Bool) (a b : Read X) → Within n a → Within n b → Within n (pick t a b)
+  pub pick-within : (t : Bool) (a b : Read X) → Within n a → Within n b → Within n (pick t a b)
   pick-within true a b h k = h
   pick-within false a b h k = k
 
@@ -25,7 +25,7 @@ module _ {X : Type 0} (n : ℕ) where
   given-within None none some h k = h
   given-within (Some w) none some h k = k w
 
-pick_shorter : (n : ℕ) (t : Bool) (a b : List ℕ) → length a ≤ n → length b ≤ n → length (pick t a b) ≤ n
+pub pick_shorter : (n : ℕ) (t : Bool) (a b : List ℕ) → length a ≤ n → length b ≤ n → length (pick t a b) ≤ n
 pick_shorter n true a b h k = h
 pick_shorter n false a b h k = k
 
@@ -37,10 +37,10 @@ skip_shorter n (b ∷ bs) h = pick_shorter n (blank b) (skip bs) (b ∷ bs) (ski
 gap_within : (n : ℕ) (bs : List ℕ) → length bs ≤ n → Within n (gap bs)
 gap_within n bs h = pick-within n (starts blank bs) _ _ (skip_shorter n bs h) h
 
-byte-within : (n w : ℕ) (bs : List ℕ) → length bs ≤ n → Within n (byte w bs)
+pub byte-within : (n w : ℕ) (bs : List ℕ) → length bs ≤ n → Within n (byte w bs)
 byte-within n w bs h = pick-within n (eqb w 32) _ _ (gap_within n bs h) (pick-within n (starts (λ b. eqb b w) bs) _ _ (omega (arith, length-drop 1 bs)) h)
 
-spelt-within : {X : Type 0} (n : ℕ) (ws : List ℕ) (x : X) (bs : List ℕ) → length bs ≤ n → Within n (spelt ws x bs)
+pub spelt-within : {X : Type 0} (n : ℕ) (ws : List ℕ) (x : X) (bs : List ℕ) → length bs ≤ n → Within n (spelt ws x bs)
 unfolding spelt
 spelt-within n [] x bs h = h
 spelt-within n (w ∷ ws) x bs h = then-within n (byte w bs) _ (byte-within n w bs h) (λ _ left k. spelt-within n ws x left k)
@@ -51,7 +51,7 @@ grown-within sort more n m [] h = h
 grown-within sort more n m (b ∷ bs) h =
     given-within n (sort b) _ _ h (λ d. given-within n (more m d) _ _ h (λ k. grown-within sort more n k bs (omega arith)))
 
-some_within : (sort : ℕ → Option ℕ) (more : ℕ → ℕ → Option ℕ) (n : ℕ) (bs : List ℕ) → length bs ≤ n → Within n (some_of sort more bs)
+pub some_within : (sort : ℕ → Option ℕ) (more : ℕ → ℕ → Option ℕ) (n : ℕ) (bs : List ℕ) → length bs ≤ n → Within n (some_of sort more bs)
 some_within sort more n bs h = given-within n (given (next bs) None sort) _ _ h (λ _. grown-within sort more n 0 bs h)
 
 field-within : (n : ℕ) (bs : List ℕ) → length bs ≤ n → Within n (field bs)

@@ -71,7 +71,7 @@ impl<'a> Reader<'a> {
     }
 
     // One digit or more.
-    fn number(&mut self) -> Result<u32, Unreadable>
+    pub fn number(&mut self) -> Result<u32, Unreadable>
         ensures { seen result self.new ≡ number_in (ahead self.old) }
     {
         let Some(_) = self.digit() else {
@@ -115,7 +115,7 @@ impl<'a> Reader<'a> {
         Ok(mask)
     }
 
-    fn piece(&self) -> Option<u8>
+    pub fn piece(&self) -> Option<u8>
         ensures { result ≡ given (next (ahead self.now)) None piece_of }
     {
         match self.peek() {
@@ -139,7 +139,7 @@ fn longer(number: u32, digit: u8) -> Option<u32>
 }
 
 // The set with a piece more, if it does not have it yet.
-fn larger(mask: u16, piece: u8) -> Option<u16>
+pub fn larger(mask: u16, piece: u8) -> Option<u16>
     requires { piece < 16 }
     ensures { result ≡ larger_by mask piece }
 {

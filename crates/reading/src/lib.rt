@@ -6,7 +6,8 @@ ghost use Rattle.reading.specs.Calls.{line_in};
 ghost use Rattle.reading.specs.Lines.{silent};
 ghost use Rattle.wire.specs.Meaning.{read_as};
 
-use reader::{Reader, Unreadable};
+pub use fields::larger;
+pub use reader::{Reader, Unreadable};
 use wire::Call;
 
 mod calls;

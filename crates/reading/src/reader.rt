@@ -3,8 +3,6 @@ ghost use Rattle.std.specs.Prelude.{◌≡◌, ◌<◌, length, drop, nat_eq};
 ghost use Rattle.reading.specs.Lines.{blank, byte as byte_in, end, gap, next, skip, spelt, starts};
 ghost use Rattle.reading.specs.Readers.{ahead, seen};
 
-use crate::kinds::Kind;
-
 // The line can't be read any further: the reader stands at the byte that does not fit.
 #[derive(Clone, Copy)]
 pub struct Unreadable;
@@ -82,14 +80,14 @@ impl<'a> Reader<'a> {
         Ok(())
     }
 
-    // Just this text, which stands for that kind of call.
-    pub fn spelt(&mut self, text: &[u8], kind: Kind) -> Result<Kind, Unreadable>
-        ensures { seen result self.new ≡ spelt text.now kind (ahead self.old) }
+    // Just this text, which stands for a value, such as a kind of call.
+    pub fn spelt<T: Copy + Drop>(&mut self, text: &[u8], value: T) -> Result<T, Unreadable>
+        ensures { seen result self.new ≡ spelt text.now value (ahead self.old) }
     {
         for byte in text {
             self.byte(*byte)?;
         }
-        Ok(kind)
+        Ok(value)
     }
 
     // Nothing but blanks, to the line's end.
