@@ -80,7 +80,7 @@ other_bid-left n may bs h =
     pick-left n (blank_here bs) (or_at may (behind_blanks bs)) _
     (pick-left n (at 111 (behind_blanks bs)) _ _
     (pick-left n may _ _
-    (then-left n (expecting OrOrEnd (spelt (codes "or") tt (behind_blanks bs))) _ (expecting-left n OrOrEnd (spelt (codes "or") tt (behind_blanks bs)) (spelt-within n (codes "or") tt (behind_blanks bs) skipped)) (λ _ left l.
+    (then-left n (expecting OrOrEnd (spelt (codes "or") (tt {0}) (behind_blanks bs))) _ (expecting-left n OrOrEnd (spelt (codes "or") (tt {0}) (behind_blanks bs)) (spelt-within n (codes "or") (tt {0}) (behind_blanks bs) skipped)) (λ _ left l.
     then-left n (expecting SetBehindOr (gap left)) _ (gap-left n SetBehindOr left l) (λ _ from d. d)))
     skipped)
     skipped)
@@ -89,7 +89,7 @@ other_bid-left n may bs h =
 bidder-left : (n k : ℕ) (bs : List ℕ) → length bs ≤ n → Left n (bidder k bs)
 bidder-left n k bs h =
     pick-left n (at 110 bs) _ _
-    (then-left n (expecting Bidder (spelt (codes "nothing") tt bs)) _ (expecting-left n Bidder (spelt (codes "nothing") tt bs) (spelt-within n (codes "nothing") tt bs h)) (λ _ left l. l))
+    (then-left n (expecting Bidder (spelt (codes "nothing") (tt {0}) bs)) _ (expecting-left n Bidder (spelt (codes "nothing") (tt {0}) bs) (spelt-within n (codes "nothing") (tt {0}) bs h)) (λ _ left l. l))
     (pick-left n (set_here bs) _ _ (several-left (bid k) (λ may _. other_bid may) n (bid-left n k) (λ may _. other_bid-left n may) 16 bs h) h)
 
 other_bidder-left : (n : ℕ) (may : Bool) (b : Bids) (bs : List ℕ) → length bs ≤ n → Left n (other_bidder may b bs)

@@ -2,5 +2,5 @@ use Rattle.reading.specs.Readers.{ahead}
 use Rattle.lotreading.proofs.Shorter.{missed_within}
 use Rattle.lotreading.proofs.read_lot.Goals as goal
 
-pub overflow-sub-place : goal.overflow-sub-place
-overflow-sub-place c = missed_within c.args.text.now _ (ahead c.lot.new.reader) c.in-Err.ensures
+pub overflow_sub-place : goal.overflow_sub-place
+overflow_sub-place c = missed_within c.args.text.now _ (ahead c.lot.new.reader) c.in-Err.ensures

@@ -16,4 +16,4 @@ returns-in-Err c =
     ∙ c.loop-piece.invariant ∙ begun _ _ _ _ c.in-Some.ensures
 
 pub returns : goal.returns
-returns c = set_done c.args.pieces c.loop-piece.mask (ahead c.loop-piece.reader) c.in-default-piece.ensures ∙ c.loop-piece.invariant ∙ begun _ _ _ _ c.in-Some.ensures
+returns c = set_done c.args.pieces c.loop-piece.mask (ahead c.loop-piece.reader) c.in_default-piece.ensures ∙ c.loop-piece.invariant ∙ begun _ _ _ _ c.in-Some.ensures

@@ -7,29 +7,29 @@ use Rattle.lotreading.proofs.lots.bidders.Goals as goal
 pub loop-row-init : goal.loop-row-init
 loop-row-init c = begins _ _ _ _ _ _ c.new-bidders.ensures (omega arith)
 
-pub returns-in-err-row : goal.returns-in-err-row
-returns-in-err-row c =
-    let p = err_from_is_err_and c.from-residual.result c.from-residual.ensures.1 in
-    rw (p.1, p.2) (none_here c.loop-row.invariant c.in-err-row.ensures)
+pub returns-in_err-row : goal.returns-in_err-row
+returns-in_err-row c =
+    let p = err_from_is_err_and c.from_residual.result c.from_residual.ensures.1 in
+    rw (p.1, p.2) (none_here c.loop-row.invariant c.in_err-row.ensures)
 
-pub returns-in-err-another : goal.returns-in-err-another
-returns-in-err-another c =
-    let p = err_from_is_err_and c.from-residual-in-err-another.result c.from-residual-in-err-another.ensures.1 in
+pub returns-in_err-another : goal.returns-in_err-another
+returns-in_err-another c =
+    let p = err_from_is_err_and c.from_residual-in_err-another.result c.from_residual-in_err-another.ensures.1 in
     let room = ap (λ l. ltb (length l) 32) c.rows.ensures in
-    rw (p.1, p.2) (not_told c.loop-row.invariant _ c.in-ok-row.ensures c.push.ensures.pushed c.push.ensures.full room c.in-err-another.ensures.told)
+    rw (p.1, p.2) (not_told c.loop-row.invariant _ c.in_ok-row.ensures c.push.ensures.pushed c.push.ensures.full room c.in_err-another.ensures.told)
 
 pub returns-then-not-branch : goal.returns-then-not-branch
 returns-then-not-branch c =
     let room = ap (λ l. ltb (length l) 32) c.rows.ensures in
-    no_other c.loop-row.invariant _ c.in-ok-row.ensures c.push.ensures.pushed c.push.ensures.full room (ahead c.another.new.reader) c.in-ok-another.ensures.told c.if-not-branch.true
+    no_other c.loop-row.invariant _ c.in_ok-row.ensures c.push.ensures.pushed c.push.ensures.full room (ahead c.another.new.reader) c.in_ok-another.ensures.told c.if-not-branch.true
 
 pub loop-row-smaller : goal.loop-row-smaller
 loop-row-smaller c =
     let room = ap (λ l. ltb (length l) 32) c.rows.ensures in
-    fewer_left c.loop-row.invariant _ c.in-ok-row.ensures c.push.ensures.pushed c.push.ensures.full room
+    fewer_left c.loop-row.invariant _ c.in_ok-row.ensures c.push.ensures.pushed c.push.ensures.full room
 
 pub loop-row-preserved : goal.loop-row-preserved
 loop-row-preserved c =
     let room = ap (λ l. ltb (length l) 32) c.rows.ensures in
-    goes_on c.loop-row.invariant _ c.in-ok-row.ensures c.push.ensures.pushed c.push.ensures.full room
-    (ahead c.another.new.reader) c.in-ok-another.ensures.told c.if-not-branch.false (c.in-ok-another.ensures.room c.if-not-branch.false)
+    goes_on c.loop-row.invariant _ c.in_ok-row.ensures c.push.ensures.pushed c.push.ensures.full room
+    (ahead c.another.new.reader) c.in_ok-another.ensures.told c.if-not-branch.false (c.in_ok-another.ensures.room c.if-not-branch.false)
