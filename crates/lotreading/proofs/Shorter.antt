@@ -6,7 +6,7 @@ use Rattle.reading.specs.Lines.{byte, digit, given, longer, next, number, piece,
 use Rattle.reading.specs.Reads.{Read, got, stuck}
 use Rattle.reading.proofs.Shorter.{Within, byte-within, pick_shorter, pick-within, some_within, spelt-within}
 use Rattle.lotreading.specs.Finds.{Find, and_then, expecting, found, missed}
-use Rattle.lotreading.specs.Lots.{bid, bidder, bidders, bids, front, joined, lot, or_at, other_bid, other_bidder, pieces_on, price, set_here, set_of, several, went}
+use Rattle.lotreading.specs.Lots.{bid, bidder, bidders, front, joined, lot, or_at, other_bid, other_bidder, pieces_on, price, set_here, set_of, several, went}
 use Rattle.lotreading.specs.Parts.{behind_blanks, blank, blank_here, gap, in_range, ranged, remark, skip}
 use Rattle.lotreading.specs.declared.expected.Expected.{Expected}
 use Rattle.lotreading.specs.declared.expected.Expected.TheVariants.{Bidder, Colon, OrOrEnd, Pieces, PriceBehindSet, SetBehindOr}

@@ -1,5 +1,5 @@
 -- What a text means: which lot it is, or the place at which it can't be read on and what was expected there. Assumes nothing: these are definitions.
-use Rattle.std.specs.Prelude.{ℕ, zero, suc, ◌-◌, Bool, true, false, List, [], ◌∷◌, length, drop, Some, None, Ok, Err, codes, Result, nat_lt}
+use Rattle.std.specs.Prelude.{ℕ, zero, suc, ◌-◌, Bool, true, false, List, [], ◌∷◌, length, drop, None, Ok, Err, codes, Result, nat_lt}
 use Rattle.auction.specs.Bids.{Bid, Bids, pick}
 use Rattle.bundles.specs.Masks.{bits}
 use Rattle.reading.specs.Calls.{at}

@@ -1,5 +1,5 @@
 -- The parts of a text of several lines: blanks and remarks, and numbers of a range. Assumes nothing: these are definitions.
-use Rattle.std.specs.Prelude.{ℕ, Bool, true, false, not, ◌&&◌, ◌||◌, List, [], ◌∷◌, ◌==◌, nat_le}
+use Rattle.std.specs.Prelude.{ℕ, Bool, false, not, ◌&&◌, ◌||◌, List, [], ◌∷◌, ◌==◌, nat_le}
 use Rattle.auction.specs.Bids.{pick}
 use Rattle.reading.specs.Lines.{number, starts}
 use Rattle.reading.specs.Reads.{Read, got, stuck}

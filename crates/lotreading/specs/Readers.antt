@@ -1,5 +1,5 @@
 -- What a reader of the code has found, and has not. Assumes nothing: these are definitions.
-use Rattle.std.specs.Prelude.{ℕ, List, Ok, Err, Result}
+use Rattle.std.specs.Prelude.{Ok, Err, Result}
 use Rattle.reading.specs.Readers.{ahead}
 use Rattle.reading.specs.declared.reader.Reader.{Reader}
 use Rattle.lotreading.specs.Finds.{Find, found, missed}

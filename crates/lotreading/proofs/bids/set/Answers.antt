@@ -1,5 +1,4 @@
-use Rattle.std.proofs.Common.{true, false, ap, ◌∙◌}
-use Rattle.auction.specs.Bids.{pick}
+use Rattle.std.proofs.Common.{ap, ◌∙◌}
 use Rattle.reading.specs.Readers.{ahead}
 use Rattle.lotreading.specs.Lots.{pieces_on}
 use Rattle.lotreading.proofs.Steps.{begun, set_done, set_missed, set_more}

@@ -1,4 +1,4 @@
-use Rattle.std.proofs.Common.{◌≡◌, true, false, ◌||◌, sym, ap, ◌∙◌, ap₂}
+use Rattle.std.proofs.Common.{◌||◌, sym, ap, ◌∙◌, ap₂}
 use Rattle.reading.specs.Readers.{ahead}
 use Rattle.lotreading.specs.Parts.{blank, skip}
 use Rattle.lotreading.proofs.Steps.{skip-end, skip-more, skip_stop}
