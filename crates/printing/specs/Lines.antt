@@ -1,6 +1,6 @@
 -- Answers as lines of text. Assumes nothing: these are definitions.
 -- A piece is a digit, 0 to 9 and then a to f; a set is a row of them in rising order; a bid is a set, a blank and a price.
-use Rattle.std.specs.Prelude.{ℕ, zero, suc, ◌+◌, Bool, List, [], ◌∷◌, ◌++◌, length, decimal, nat_lt}
+use Rattle.std.specs.Prelude.{ℕ, suc, ◌+◌, List, [], ◌∷◌, ◌++◌, length, decimal, nat_lt}
 use Rattle.auction.specs.Bids.{Some, Bid, Bids, pick}
 use Rattle.auction.specs.House.{Answer, refused, number, two, list}
 

@@ -1,9 +1,8 @@
-use Rattle.std.proofs.Common.{◌≡◌, ℕ, ◌-◌, List, take, ap, ◌∙◌, subst}
+use Rattle.std.proofs.Common.{ℕ, List, take, ap, ◌∙◌, subst}
 use native.Mathlib.Nat.{sub-zero}
 use Rattle.auction.specs.Bids.{Bids}
 use Rattle.bundles.specs.Rows.{all_held}
 use Rattle.solver.specs.Welfare.{AllMost, FilledFrom}
-use Rattle.exports.specs.Filling.{rows_in}
 use Rattle.exports.proofs.tables.fill_from_words.Goals as goal
 
 pub returns : goal.returns
