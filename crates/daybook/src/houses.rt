@@ -1,6 +1,6 @@
 // A house from its opening to the last call of a row of bytes.
 ghost use Rattle.std.specs.Prelude.{◌≡◌, ◌≤◌, ◌++◌, map, length, IfOk, OnOk};
-ghost use Rattle.auction.specs.House.{new_house, answers as AnswersOf};
+ghost use Rattle.auction.specs.House.{new_house, answers as answers_of};
 ghost use Rattle.auction.specs.Promise.{GoodLimits, thin};
 ghost use Rattle.daybook.specs.Records.{framed, records, roomy};
 ghost use Rattle.ledger.specs.Houses.{limits_of};
@@ -24,7 +24,7 @@ pub fn run_house(
     answers: &mut Vec<u8>,
 ) -> Result<bool, AllocError>
     ensures opens { IfOk result (λ b. b ≡ roomy limits memory.old) }
-    ensures written { OnOk result (GoodLimits (limits_of thin limits) → house_words limits ≤ length memory.old → answers.new.items ≡ answers.old.items ++ framed (map answer_bytes (AnswersOf (limits_of thin limits) new_house (map call_in (records requests.now))))) }
+    ensures written { OnOk result (GoodLimits (limits_of thin limits) → house_words limits ≤ length memory.old → answers.new.items ≡ answers.old.items ++ framed (map answer_bytes (answers_of (limits_of thin limits) new_house (map call_in (records requests.now))))) }
 {
     opens_anew(limits, memory);
     match open(limits, memory) {
