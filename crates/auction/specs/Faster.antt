@@ -1,5 +1,5 @@
 -- Laws by which a lot can be settled with less work than all ways to part its pieces. Each is a statement, a type whose proof is owed. Assumes nothing.
-use Rattle.std.specs.Prelude.{◌≡◌, ℕ, ◌+◌, ◌<◌, ◌≤◌, Bool, true, false, ◌&&◌, ◌≢◌, List, [], ◌∷◌, ◌++◌, map, length, get_or, take, drop, count_by, nat_le, slice_index, slice_index_or}
+use Rattle.std.specs.Prelude.{◌≡◌, ℕ, ◌+◌, ◌<◌, ◌≤◌, Bool, true, false, ◌&&◌, ◌≢◌, List, [], ◌∷◌, ◌++◌, map, length, take, drop, count_by, nat_le, slice_index, slice_index_or}
 use Rattle.auction.specs.Bids.{Some, within, less, all, Bid, Bids, no_bid, with_some, best, first_good, choice, without, pays}
 use Rattle.auction.specs.Laws.{pieces_of, shared}
 
@@ -76,6 +76,6 @@ KeptBest =
 unfoldable pub LoneBidder : Type 0
 LoneBidder =
     (bss : List Bids) (i : ℕ) (free : Some) → ((j : ℕ) → j ≢ i → slice_index_or bss j [] ≡ []) →
-    let bs : Bids = get_or bss i [] in
+    let bs : Bids = slice_index_or bss i [] in
     let most : ℕ = with_some bs free (λ _. 0) in
     (best bss free ≡ most) × (slice_index (choice bss free) i ≡ first_good bs free (λ _. 0) most 0) × (pays bss free i ≡ 0)

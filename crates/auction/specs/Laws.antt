@@ -1,5 +1,5 @@
 -- Laws beyond what is promised, on which a solver rests. Each is a statement, a type whose proof is owed. Assumes nothing.
-use Rattle.std.specs.Prelude.{◌≡◌, ℕ, zero, suc, ◌+◌, ◌-◌, ◌<◌, ◌≤◌, Bool, true, false, not, ◌&&◌, ◌||◌, ◌≢◌, List, [], ◌∷◌, ◌++◌, length, get_or, set, ◌==◌, slice_index, slice_index_or, slice_set}
+use Rattle.std.specs.Prelude.{◌≡◌, ℕ, zero, suc, ◌+◌, ◌-◌, ◌<◌, ◌≤◌, Bool, true, false, not, ◌&&◌, ◌||◌, ◌≢◌, List, [], ◌∷◌, ◌++◌, length, ◌==◌, slice_index, slice_index_or, slice_set}
 use Rattle.auction.specs.Bids.{pick, Some, within, less, Bid, Bids, no_bid, with_some, best, given, choice, without, pays}
 use Rattle.auction.specs.Promise.{worth, fits_all, sum_of, raised}
 
@@ -24,8 +24,8 @@ clarke bss free cs i = best (without bss i) free - (best bss free - (got_by bss 
 unfoldable pub NoTieRuleRewardsLying : Type 0
 NoTieRuleRewardsLying =
     (bss : List Bids) (i : ℕ) (free : Some) (truth lie : Bids) (cs ds : List ℕ) → i < length bss →
-    let honest : List Bids = set bss i truth in
-    let other : List Bids = set bss i lie in
+    let honest : List Bids = slice_set bss i truth in
+    let other : List Bids = slice_set bss i lie in
     BestWay honest free cs → BestWay other free ds →
     worth truth (got_by other ds i).on + clarke honest free cs i ≤ worth truth (got_by honest cs i).on + clarke other free ds i
 
@@ -49,7 +49,7 @@ touches (x ∷ xs) (y ∷ ys) = (x && y) || touches xs ys
 
 -- the pieces of a bid, by its bidder and its place; none where there is no such bid
 abbrev pub pieces_of : List Bids → ℕ → ℕ → Some
-pieces_of bss i a = (get_or (slice_index_or bss i []) a no_bid).on
+pieces_of bss i a = (slice_index_or (slice_index_or bss i []) a no_bid).on
 
 -- pieces that nobody wants can be left out: that changes nothing of what it comes to, of what is taken or of what is paid
 unfoldable pub UnwantedPieces : Type 0
@@ -103,11 +103,11 @@ summed zero f = 0
 summed (suc m) f = summed m f + f m
 
 abbrev pub numbered : (ℕ → ℕ) → ℕ → ℕ → Bool
-numbered Group-of g i = Group-of i == g
+numbered group_of g i = group_of i == g
 
 unfoldable pub ManyGroups : Type 0
 ManyGroups =
-    (Group-of : ℕ → ℕ) (groups : ℕ) (bss : List Bids) (free : Some) → ((i : ℕ) → i < length bss → Group-of i < groups) →
-    ((i j a c : ℕ) → Group-of i ≢ Group-of j → touches (pieces_of bss i a) (pieces_of bss j c) ≡ false) →
-    (best bss free ≡ summed groups (λ g. best (only (numbered Group-of g) bss) free))
-    × ((i : ℕ) → SameFor bss free (only (numbered Group-of (Group-of i)) bss) free i)
+    (group_of : ℕ → ℕ) (groups : ℕ) (bss : List Bids) (free : Some) → ((i : ℕ) → i < length bss → group_of i < groups) →
+    ((i j a c : ℕ) → group_of i ≢ group_of j → touches (pieces_of bss i a) (pieces_of bss j c) ≡ false) →
+    (best bss free ≡ summed groups (λ g. best (only (numbered group_of g) bss) free))
+    × ((i : ℕ) → SameFor bss free (only (numbered group_of (group_of i)) bss) free i)

@@ -1,5 +1,5 @@
 -- What is promised. Each is a statement, a type whose proof is owed. Assumes nothing.
-use Rattle.std.specs.Prelude.{◌≡◌, ℕ, suc, ◌+◌, ◌*◌, ◌<◌, ◌≤◌, Bool, true, false, not, ◌&&◌, ◌||◌, ◌≢◌, List, [], ◌∷◌, ◌++◌, length, get_or, set, ◌==◌, nat_le, nat_lt, slice_index, slice_index_or, slice_set}
+use Rattle.std.specs.Prelude.{◌≡◌, ℕ, suc, ◌+◌, ◌*◌, ◌<◌, ◌≤◌, Bool, true, false, not, ◌&&◌, ◌||◌, ◌≢◌, List, [], ◌∷◌, ◌++◌, length, ◌==◌, nat_le, nat_lt, slice_index, slice_index_or, slice_set}
 use Rattle.auction.specs.Bids.{pick, Some, within, less, all, Bids, no_bid, larger, best, choice, given, taken, pays}
 use Rattle.auction.specs.House.{Call, opens, bids, ticks, my_bids, result, brings, lot_is, garbled, Answer, Limits, House, the_lot, prices_fine, turned, after, answer, answers, ran, new_house}
 
@@ -78,8 +78,8 @@ worth (b ∷ bs) s = larger (pick (within b.on s) b.price 0) (worth bs s)
 unfoldable pub TruthIsBest : Type 0
 TruthIsBest =
     (bss : List Bids) (i n : ℕ) (truth lie : Bids) → i < length bss →
-    let honest : List Bids = set bss i truth in
-    let other : List Bids = set bss i lie in
+    let honest : List Bids = slice_set bss i truth in
+    let other : List Bids = slice_set bss i lie in
     worth truth (taken other (all n) i).on + pays honest (all n) i ≤ worth truth (taken honest (all n) i).on + pays other (all n) i
 
 -- SEALED BIDS: as long as a lot is open, whatever anybody else bids on it changes no answer but to their own calls there
@@ -135,12 +135,12 @@ NeverLoses = (bss : List Bids) (i n : ℕ) → i < length bss → pays bss (all 
 
 -- 4. a higher price never loses a bid that was taken: if a bidder's bid was taken, it still is when only that price is raised, and no more is paid
 unfoldable pub raised : Bids → ℕ → ℕ → Bids
-raised bs j x = slice_set bs j (record { on = (get_or bs j no_bid).on; price = (get_or bs j no_bid).price + x })
+raised bs j x = slice_set bs j (record { on = (slice_index_or bs j no_bid).on; price = (slice_index_or bs j no_bid).price + x })
 
 unfoldable pub RaisingKeeps : Type 0
 RaisingKeeps =
     (bss : List Bids) (i j x n : ℕ) → i < length bss → prices_fine (slice_index_or bss i []) ≡ true → slice_index (choice bss (all n)) i ≡ suc j →
-    let more : List Bids = set bss i (raised (slice_index_or bss i []) j x) in
+    let more : List Bids = slice_set bss i (raised (slice_index_or bss i []) j x) in
     ((taken more (all n) i).on ≡ (taken bss (all n) i).on) × (pays more (all n) i ≡ pays bss (all n) i)
 
 -- 5. a closed lot stays as it is

@@ -1,5 +1,5 @@
 -- Shares written bidder by bidder. Assumes nothing: these are definitions.
-use Rattle.std.specs.Prelude.{◌≡◌, ℕ, ◌<◌, ◌≤◌, true, false, ◌⊎◌, List, [], length, get_or, slice_index, slice_index_or}
+use Rattle.std.specs.Prelude.{◌≡◌, ℕ, ◌<◌, ◌≤◌, true, false, ◌⊎◌, List, [], length, slice_index, slice_index_or}
 use Rattle.auction.specs.Bids.{Some, Bids, choice, pays}
 use Rattle.bundles.specs.Rows.{all_held}
 use Rattle.bundles.specs.declared.row.Row.{Row}
@@ -10,12 +10,12 @@ use Rattle.settling.specs.Groups.{member}
 -- what one bidder gets and pays is as the meaning says
 pub record RightFor (bss : List Bids) (free : Some) (s : Shares) (j : ℕ) : Type 0 where
   pub got : IsTaken (slice_index_or bss j []) (slice_index (choice bss free) j) (slice_index_or s.taken j nothing_taken)
-  pub pays : get_or s.paid j 0 ≡ pays bss free j
+  pub pays : slice_index s.paid j ≡ pays bss free j
 
 -- one bidder's shares are as they were
 pub record SameShare (s r : Shares) (j : ℕ) : Type 0 where
-  pub taken : get_or r.taken j nothing_taken ≡ slice_index_or s.taken j nothing_taken
-  pub paid : get_or r.paid j 0 ≡ slice_index s.paid j
+  pub taken : slice_index_or r.taken j nothing_taken ≡ slice_index_or s.taken j nothing_taken
+  pub paid : slice_index r.paid j ≡ slice_index s.paid j
 
 -- there are so many of each
 pub record Whole (s : Shares) : Type 0 where

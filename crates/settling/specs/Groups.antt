@@ -1,5 +1,5 @@
 -- Groups of bidders that share pieces, by what each wants. Assumes nothing: these are definitions.
-use Rattle.std.specs.Prelude.{◌≡◌, ℕ, ◌<◌, Bool, true, not, ◌⊎◌, List, [], ◌∷◌, map, length, get_or, ◌==◌, bit_and, bit_or, slice_index, slice_index_or}
+use Rattle.std.specs.Prelude.{◌≡◌, ℕ, ◌<◌, Bool, true, not, ◌⊎◌, List, [], ◌∷◌, map, length, ◌==◌, bit_and, bit_or, slice_index, slice_index_or}
 use Rattle.std.specs.List.{range_with_len}
 use Rattle.auction.specs.Bids.{Some, Bids, pick, choice, pays}
 use Rattle.bundles.specs.Offers.{all_meant}
@@ -48,7 +48,7 @@ group_bids ws pieces rows = map (λ i. pick (member ws pieces i) (all_meant (pac
 pub record GroupShares (rows : List Row) (ws : List ℕ) (pieces : ℕ) (free : Some) (s : Shares) : Type 0 where
   pub all_taken : length s.taken ≡ 32
   pub all_paid : length s.paid ≡ 32
-  pub place : (i : ℕ) → i < length rows → member ws pieces i ≡ true → (get_or s.taken i nothing_taken).place ≡ slice_index (choice (all_held rows) free) i
+  pub place : (i : ℕ) → i < length rows → member ws pieces i ≡ true → (slice_index_or s.taken i nothing_taken).place ≡ slice_index (choice (all_held rows) free) i
   pub paid : (i : ℕ) → i < length rows → member ws pieces i ≡ true → slice_index s.paid i ≡ pays (all_held rows) free i
 
 -- whoever wants one of these pieces wants no others
