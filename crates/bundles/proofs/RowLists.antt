@@ -5,8 +5,7 @@ use Rattle.std.proofs.lemmas.List.FromFn.{map-range_with_len_more}
 use Rattle.std.proofs.lemmas.List.{map_push, take_more_set}
 use Rattle.auction.specs.Bids.{Bids}
 use Rattle.bundles.specs.Offers.{all_meant}
-use Rattle.bundles.specs.Rows.{held, all_held}
-use Rattle.bundles.specs.declared.row.Row.{Row}
+use Rattle.bundles.specs.Rows.{Row, held, all_held}
 
 -- one row more, of the bidder that is next
 pub rows_more : (rows : List Row) (row : Row) (f : ℕ → Bids) (i : ℕ) → i < length rows → all_meant (held row) ≡ f i → all_held (take i rows) ≡ map f (range_with_len 0 i) →

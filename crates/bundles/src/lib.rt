@@ -12,23 +12,32 @@ use bridge::{
     joined_bits_are_the_union, no_bit_beyond_is_within, no_bit_is_no_piece,
     same_bits_are_the_same_set,
 };
-pub use row::Row;
+pub use up_to::{Full, UpTo};
 
 mod bridge;
-mod row;
+mod up_to;
+
+// No lot has more pieces.
+pub const MOST_PIECES: u32 = 16;
+
+// No bid is higher.
+pub const HIGHEST_PRICE: u32 = 1_000_000_000;
 
 // A set of pieces. Its contracts hold for any number of pieces that are looked at, as long as the masks have no others.
-#[derive(Clone, Copy, PartialEq, Eq)]
+#[derive(Clone, Copy, Debug, Default, PartialEq, Eq)]
 pub struct Bundle {
     pub mask: u16,
 }
 
 // An offer of so much for these pieces together, and no others.
-#[derive(Clone, Copy, PartialEq, Eq)]
+#[derive(Clone, Copy, Debug, Default, PartialEq, Eq)]
 pub struct Bid {
     pub on: Bundle,
     pub price: u32,
 }
+
+// A bidder's bids on a lot.
+pub type Row = UpTo<Bid, 16>;
 
 impl Bundle {
     pub fn is_empty(self) -> bool
@@ -87,7 +96,7 @@ impl Bundle {
         ensures { (n : ℕ) → self.mask < 2 ^ n → other.mask < 2 ^ n → Decides result (bits n self.mask ≡ bits n other.mask) }
     {
         same_bits_are_the_same_set(self.mask, other.mask);
-        self.mask == other.mask
+        self == other
     }
 
     // Has a lot of so many pieces all of this set?

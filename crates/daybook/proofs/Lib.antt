@@ -1,4 +1,2 @@
 pub mod Cuts
-pub mod Frames
-pub mod Turns
 pub mod Openings

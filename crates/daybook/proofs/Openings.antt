@@ -1,7 +1,7 @@
 -- A house is opened and every record of a row is answered as the written house does. Assumes nothing.
-use Rattle.std.proofs.Common.{◌≡◌, ℕ, zero, suc, ◌+◌, ◌*◌, ◌≤◌, Bool, true, false, ◌&&◌, leb, List, [], ◌∷◌, map, length, take, Ok, Err, Result, refl, ap, ◌∙◌, arith}
+use Rattle.std.proofs.lemmas.Grind.{common_steps}
+use Rattle.std.proofs.Common.{◌≡◌, ℕ, zero, suc, ◌+◌, ◌*◌, ◌≤◌, true, List, [], ◌∷◌, map, length, take, refl, ap, ◌∙◌, arith}
 use Rattle.std.proofs.lemmas.Bool.{and_from, le-leb}
-use Rattle.auction.specs.Bids.{pick}
 use Rattle.auction.specs.House.{House, answers, new_house}
 use Rattle.auction.specs.Promise.{readable, all_readable, thin}
 use Rattle.bundles.proofs.Picks.{pick_yes}
@@ -11,14 +11,12 @@ use Rattle.keeper.proofs.Runs.{right_from}
 use Rattle.ledger.specs.Houses.{limits_of}
 use Rattle.ledger.specs.Laws.{NewHouse}
 use Rattle.ledger.specs.Layout.{Good, good, house_words}
-use Rattle.ledger.specs.Opening.{opened, opening, after_opening}
+use Rattle.ledger.specs.Opening.{opened, after_opening}
 use Rattle.ledger.specs.declared.layout.Limits.{Limits}
-use Rattle.ledger.specs.declared.opening.Trouble.{Trouble}
-use Rattle.ledger.specs.declared.opening.Trouble.TheVariants.{BadLimits, ShortMemory}
 use Rattle.wire.specs.Bytes.{AllBytes}
 use Rattle.wire.specs.Calls.{call_in}
 use Rattle.wire.proofs.Spelling.{rest_bytes}
-use Rattle.daybook.specs.Records.{records_behind, calls_in, told, roomy}
+use Rattle.daybook.specs.Records.{records_behind, calls_in, told}
 
 -- every record is a call that can be carried
 all_read : (n : ℕ) (bs : List ℕ) → AllBytes bs → all_readable (map call_in (records_behind n bs)) ≡ true
@@ -32,19 +30,7 @@ all_read (suc n) [] h = refl
 all_read (suc n) (b ∷ bs) h = all_read n bs (rest_bytes b bs h)
 
 good_limits : (l : Limits) → Good l → good l ≡ true
-good_limits l g =
-    and_from (leb l.lots 4096) _ (le-leb l.lots 4096 g.0)
-    (and_from (leb 1 l.bidders) _ (le-leb 1 l.bidders (omega (arith, g.1)))
-    (and_from (leb l.bidders 32) _ (le-leb l.bidders 32 g.2) (le-leb l.each 16 g.3)))
-
--- a house is opened only where the limits are good and the memory is enough
-pub opens_there : (l : Limits) (m : List ℕ) (u : Unit {0}) → Ok u ≡ opening l m → true ≡ roomy l m
-opens_there l m u e = go (good l) (leb (house_words l) (length m)) e
-  where
-    go : (a b : Bool) → Ok u ≡ pick {A = Result (Unit {0}) Trouble} a (pick b (Ok tt) (Err ShortMemory)) (Err BadLimits) → true ≡ (a && b)
-    go true true e = refl
-    go true false e = cc
-    go false b e = cc
+good_limits l g = grind (arith, common_steps)
 
 -- the answers are the written house's
 pub as_written : (l : Limits) (m w bs : List ℕ) → Good l → house_words l ≤ length m → NewHouse l m (opened l m) → AllBytes bs → w ≡ after_opening l m →

@@ -6,6 +6,7 @@ use Rattle.auction.specs.Promise.{told_by, left_by}
 use Rattle.keeper.specs.Keeping.{the_keeper}
 use Rattle.ledger.specs.Layout.{good, house_words}
 use Rattle.ledger.specs.declared.layout.Limits.{Limits}
+use Rattle.daybook.specs.declared.records.Records.{Records}
 use Rattle.wire.specs.Answers.{answer_bytes}
 use Rattle.wire.specs.Bytes.{spelled}
 use Rattle.wire.specs.Calls.{call_in}
@@ -20,6 +21,10 @@ records_behind (suc n) (b ∷ bs) = records_behind n bs
 
 abbrev pub records : List ℕ → List (List ℕ)
 records bs = records_behind 0 bs
+
+-- the records that are yet to come of those that are gone through one by one
+abbrev pub left_in : Records → List (List ℕ)
+left_in r = records r.rest.now
 
 -- a record with its length before it, and records one after the other
 abbrev pub framed_one : List ℕ → List ℕ

@@ -2,7 +2,7 @@
 #![tactic(auto)]
 
 pub use days::answer_all;
-pub use houses::run_house;
+pub use houses::{Stopped, run_house};
 
 mod days;
 mod houses;

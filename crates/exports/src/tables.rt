@@ -38,7 +38,7 @@ fn fill_from_words(tables: &mut [u32], pieces: u32, bidders: usize, words: &[u32
     ensures ways { AllMost tables.new pieces (rows_in words.now bidders) }
 {
     let rows = read_rows(words, bidders);
-    fill_tables(tables, pieces, &rows[0..bidders]);
+    fill_tables(tables, pieces, rows.as_slice());
 }
 
 // May so many words be filled for so many pieces and bidders, from so many words of bids? If so, how many of them are.

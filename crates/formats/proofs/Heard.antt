@@ -10,7 +10,8 @@ use Rattle.wire.specs.Bytes.{spelled, number_in, bids_in, bids_bytes}
 use Rattle.formats.specs.Laws.{carried, AnswersComeBack, AnswersFit}
 use Rattle.formats.proofs.RoundTrips.{first_field, second-field, length_two}
 use Rattle.wire.proofs.SixBytes.{bids_forth}
-use Rattle.wire.proofs.Spelling.{length-spelled, number_spelled}
+use Rattle.wire.specs.Sizes.{length-spelled}
+use Rattle.wire.proofs.Spelling.{number_spelled}
 use Rattle.wire.proofs.Writing.{length-bids_bytes}
 
 whole-answer : (k : ℕ) (bs : List ℕ) → suc (length bs) ≡ length_by k (get_or bs 0 0) → answer_in (k ∷ bs) ≡ answer_of k (k ∷ bs)

@@ -11,7 +11,8 @@ use Rattle.bundles.proofs.Sets.{length-bits}
 use Rattle.wire.specs.Bytes.{AllBytes, spelled, number_in, bids_in, bids_bytes}
 use Rattle.wire.specs.Calls.{call_bytes, call_in, call_of, call_size, size_by}
 use Rattle.formats.specs.Laws.{is_call, CallsComeBack, BytesComeBack, OneRowACall, ReadIsReadable, Begins, PlaceIsLongest}
-use Rattle.wire.proofs.Spelling.{drop_bytes, length-spelled, number_below, number_spelled, rest_bytes, spelled-number}
+use Rattle.wire.specs.Sizes.{length-spelled}
+use Rattle.wire.proofs.Spelling.{drop_bytes, number_below, number_spelled, rest_bytes, spelled-number}
 use Rattle.wire.proofs.SixBytes.{bids_back, bids_forth, length-bids_in}
 use Rattle.wire.proofs.Writing.{length-bids_bytes}
 

@@ -1,8 +1,10 @@
 // The words of the command line.
-ghost use Rattle.std.specs.Prelude.{◌≤◌, length, IfOk};
+ghost use Rattle.std.specs.Prelude.{◌≤◌, IfOk};
 ghost use Rattle.house.specs.Wishes.{Sane};
+ghost use Rattle.ledger.specs.Layout.{Good};
 
 use ledger::Limits;
+use std::fmt;
 
 pub const HELP: &str = "usage: house [--lots N] [--bidders N] [--each N] [FILE]
 
@@ -31,51 +33,52 @@ Answers:
   3 N: 01 130, 0 60        N bids
 ";
 
-// What is asked for: the help, or a house with limits and, by its place among the words, a file.
+// What is asked for: the help, or a house with limits and a file.
 #[derive(Clone, Copy)]
-pub enum Wish {
+pub enum Wish<'a> {
     Help,
-    Serve { limits: Limits, file: Option<usize> },
+    Serve {
+        limits: Limits,
+        file: Option<&'a str>,
+    },
 }
 
-// What is wrong with the words, and at which.
+// What is wrong with the words.
 #[derive(Clone, Copy)]
-pub enum Fault {
-    Unknown(usize),
-    NoNumber(usize),
-    NotInRange { at: usize, least: u32, most: u32 },
-    SecondFile(usize),
+pub enum Fault<'a> {
+    Unknown(&'a str),
+    NoNumber(&'a str),
+    NotInRange {
+        option: &'a str,
+        given: &'a str,
+        least: u32,
+        most: u32,
+    },
+    SecondFile(&'a str),
 }
 
-#[derive(Clone, Copy)]
-enum Word {
-    Help,
-    Lots,
-    Bidders,
-    Each,
-    File,
-    Unknown,
-}
-
-fn kind_of(word: &str) -> Word {
-    if word == "--help" || word == "-h" {
-        Word::Help
-    } else if word == "--lots" {
-        Word::Lots
-    } else if word == "--bidders" {
-        Word::Bidders
-    } else if word == "--each" {
-        Word::Each
-    } else if word.starts_with('-') {
-        Word::Unknown
-    } else {
-        Word::File
+impl fmt::Display for Fault<'_> {
+    fn fmt<W: fmt::Write>(&self, f: &mut fmt::Formatter<W>) -> fmt::Result {
+        match *self {
+            Fault::Unknown(word) => write!(f, "unknown option {word}; house --help lists them"),
+            Fault::NoNumber(option) => write!(f, "{option} takes a number"),
+            Fault::NotInRange {
+                option,
+                given,
+                least,
+                most,
+            } => write!(
+                f,
+                "{option} takes a whole number from {least} to {most}, not {given}"
+            ),
+            Fault::SecondFile(word) => write!(f, "one file at most; {word} is a second"),
+        }
     }
 }
 
 // The words behind the program's name.
-pub fn wish_of(words: &[String]) -> Result<Wish, Fault>
-    ensures { IfOk result (λ w. Sane (length words.now) w) }
+pub fn wish_of<'a>(words: &'a [String]) -> Result<Wish<'a>, Fault<'a>>
+    ensures { IfOk result (λ w. Sane words.now w) }
 {
     let mut limits = Limits {
         lots: 4096,
@@ -83,47 +86,64 @@ pub fn wish_of(words: &[String]) -> Result<Wish, Fault>
         each: 16,
     };
     let mut file = None;
-    let mut at = 1;
-    while at < words.len() {
-        match kind_of(words[at].as_str()) {
-            Word::Help => return Ok(Wish::Help),
-            Word::Unknown => return Err(Fault::Unknown(at)),
-            Word::File => {
-                if file.is_some() {
-                    return Err(Fault::SecondFile(at));
-                }
-                file = Some(at);
-                at += 1;
+    let mut rest = words.iter();
+    rest.next();
+    while let Some(word) = rest.next() {
+        match word.as_str() {
+            "--help" | "-h" => return Ok(Wish::Help),
+            option @ ("--lots" | "--bidders" | "--each") => {
+                limits = with_limit(limits, option, rest.next())?;
             }
-            Word::Lots => {
-                limits.lots = number_behind(words, at, 0, 4096)?;
-                at += 2;
-            }
-            Word::Bidders => {
-                limits.bidders = number_behind(words, at, 1, 32)?;
-                at += 2;
-            }
-            Word::Each => {
-                limits.each = number_behind(words, at, 0, 16)?;
-                at += 2;
-            }
+            option if option.starts_with('-') => return Err(Fault::Unknown(option)),
+            second if file.is_some() => return Err(Fault::SecondFile(second)),
+            name => file = Some(name),
         }
     }
     Ok(Wish::Serve { limits, file })
 }
 
+// The limits with the one that the option names.
+fn with_limit<'a>(
+    limits: Limits,
+    option: &'a str,
+    given: Option<&'a String>,
+) -> Result<Limits, Fault<'a>>
+    requires { Good limits }
+    ensures { IfOk result Good }
+{
+    Ok(match option {
+        "--lots" => Limits {
+            lots: number_behind(option, given, 0, 4096)?,
+            ..limits
+        },
+        "--bidders" => Limits {
+            bidders: number_behind(option, given, 1, 32)?,
+            ..limits
+        },
+        _ => Limits {
+            each: number_behind(option, given, 0, 16)?,
+            ..limits
+        },
+    })
+}
+
 // The number behind an option, within its range.
-fn number_behind(words: &[String], at: usize, least: u32, most: u32) -> Result<u32, Fault>
+fn number_behind<'a>(
+    option: &'a str,
+    given: Option<&'a String>,
+    least: u32,
+    most: u32,
+) -> Result<u32, Fault<'a>>
     ensures { IfOk result (λ n. (least ≤ n) × (n ≤ most)) }
 {
-    let Some(word) = words.get(at.saturating_add(1)) else {
-        return Err(Fault::NoNumber(at));
-    };
-    let Ok(n) = word.as_str().parse::<u32>() else {
-        return Err(Fault::NotInRange { at, least, most });
-    };
-    if n < least || n > most {
-        return Err(Fault::NotInRange { at, least, most });
+    let given = given.ok_or(Fault::NoNumber(option))?.as_str();
+    match given.parse::<u32>() {
+        Ok(n) if (least..=most).contains(&n) => Ok(n),
+        _ => Err(Fault::NotInRange {
+            option,
+            given,
+            least,
+            most,
+        }),
     }
-    Ok(n)
 }

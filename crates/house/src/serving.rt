@@ -3,7 +3,7 @@ ghost use Rattle.std.specs.Prelude.{◌≡◌, ◌++◌, string_bytes, OnOk};
 ghost use Rattle.house.specs.Desk.{after_line, answered, body};
 
 use printing::Line;
-use reading::{is_silent, read_line};
+use reading::{BidBuffer, is_silent, read_line};
 use session::answer;
 use std::alloc::AllocError;
 use std::io;
@@ -15,14 +15,13 @@ pub fn serve<R: Read + Drop>(rt: &HostRuntime, memory: &mut [u32], input: R) -> 
     let mut reader = BufReader::new(heap, input)?;
     let mut line = Vec::new(heap);
     let mut answers = String::new(heap);
+    // A line a round, to the end of the input: a loop with no bound would need the leave to wait.
     for _ in 0..u64::MAX {
         line.clear();
         if reader.read_until(b'\n', &mut line)? == 0 {
             break;
         }
-        if answer_line(memory, without_end(line.as_slice()), &mut answers).is_err() {
-            return Err(io::Error::from(io::ErrorKind::OutOfMemory));
-        }
+        answer_line(memory, without_end(line.as_slice()), &mut answers)?;
         if !reader.buffer().contains(&b'\n') {
             rt.print(answers.as_str())?;
             answers.clear();
@@ -35,11 +34,7 @@ pub fn serve<R: Read + Drop>(rt: &HostRuntime, memory: &mut [u32], input: R) -> 
 fn without_end(line: &[u8]) -> &[u8]
     ensures { result.now ≡ body line.now }
 {
-    let size = line.len();
-    if size == 0 || line[size - 1] != b'\n' {
-        return line;
-    }
-    &line[0..size - 1]
+    line.strip_suffix(b"\n").unwrap_or(line)
 }
 
 // Answers a line, if it is to be answered, with a line behind what was written so far.
@@ -50,7 +45,7 @@ fn answer_line(memory: &mut [u32], line: &[u8], out: &mut String) -> Result<(), 
     if is_silent(line) {
         return Ok(());
     }
-    let mut bids = [0; 1530];
+    let mut bids = BidBuffer::new();
     let said = Line(answer(memory, read_line(line, &mut bids)));
     writeln!(out, "{said}")
 }

@@ -1,89 +1,62 @@
 -- Lots that are found: the order in which they close, the first of some, and what the words tell of the list of lots. Assumes nothing.
-use Rattle.std.proofs.Common.{◌≡◌, ℕ, ◌+◌, ◌<◌, ◌≤◌, Bool, true, false, cond, eqb, ltb, leb, ◌⊎◌, List, [], map, length, get_or, Some, None, Option, sym, refl, ap, ◌∙◌, subst, ap₂, inl, inr, ⊎_elim, add-zero, arith, below_more}
+use Rattle.std.proofs.lemmas.Grind.{common_steps}
+use Rattle.std.proofs.Common.{◌≡◌, ℕ, ◌<◌, Bool, true, false, cond, leb, zero, suc, All, Contains, count_by, MatchOption, ◌∷◌, filter, List, [], map, length, get_or, Some, None, Option, sym, refl, ap, ◌∙◌, subst, ⊎_elim, arith}
 use Rattle.std.specs.List.{range_with_len}
-use Rattle.std.proofs.lemmas.List.FromFn.{sum_by-map-range_with_len_more}
-use Rattle.std.proofs.lemmas.Bool.{cases_Bool, both_ways, and_parts, and_from, and_cases, or_cases, or_left, or_right, ltb-true, eqb-true, lt-ltb, le-ltb, eq-eqb}
+use Rattle.std.specs.Iterator.Runs.{Run, AnyItem}
+use Rattle.std.specs.Option.{option_map, IsSomeAnd}
+use Rattle.std.proofs.lemmas.List.Elements.{All-contains, All-filter, All-from_get_or, Contains-get_or, filter_passes}
+use Rattle.std.proofs.lemmas.List.Sums.{length-filter, sum-map}
+use Rattle.std.proofs.lemmas.Simd.{map-map}
+use Rattle.std.proofs.lemmas.Bool.{cases_Bool}
 use Rattle.auction.specs.House.{Lot}
 use Rattle.bundles.proofs.Picks.{pick_yes, pick_no}
 use Rattle.ledger.specs.declared.finding.Closing.{Closing}
-use Rattle.ledger.specs.declared.lots.Lot.{Lot as LotWords}
 use Rattle.ledger.specs.declared.standing.Header.{Header}
-use Rattle.ledger.specs.Layout.{lot_at, count_at}
 use Rattle.ledger.specs.Houses.{house_in, is_house, limits_in, lot_in, lot_words, Stands}
-use Rattle.ledger.specs.Finding.{lots_in, lot_of_list, numbered, place_of, how_many_closed, before, is_past, is_between, closing, FindsFirst, NextClosing}
+use Rattle.ledger.specs.Finding.{lots_in, lot_of_list, how_many_closed, before, is_past, closing, FindsFirst, NextClosing}
 
--- the order of closing, as facts
-abbrev Sooner : Closing → Closing → Type 0
-Sooner a b = (a.until < b.until) ⊎ ((a.until ≡ b.until) × (a.number < b.number))
+-- what stands in a list and passes stands in what is filtered
+Contains-filter : {X : Type 0} (p : X → Bool) (xs : List X) (x : X) → Contains xs x → p x ≡ true → Contains (filter p xs) x
+Contains-filter p [] x there t = absurd (omega (arith, there.1))
+Contains-filter p (y ∷ ys) x (zero, h, e) t = rw (e, t) (zero, omega arith, refl)
+Contains-filter p (y ∷ ys) x (suc k, h, e) t = go (p y) (Contains-filter p ys x (k, omega arith, e) t)
+  where
+    go : (b : Bool) → Contains (filter p ys) x → Contains (cond b (y ∷ filter p ys) (filter p ys)) x
+    go true (j, hj, ej) = (suc j, omega arith, ej)
+    go false there = there
 
-before_true : (a b : Closing) → before a b ≡ true → Sooner a b
-before_true a b e =
-    ⊎_elim {C = Sooner a b} (λ t. inl (ltb-true a.until b.until t))
-    (λ t. let same = and_parts (eqb a.until b.until) _ t in inr (eqb-true a.until b.until same.0, ltb-true a.number b.number same.1))
-    (or_cases (ltb a.until b.until) _ e)
+-- an item of a run is in the list of its items
+in_items : {S A : Type 0} {steps : S → Option A → S → Type 0} (p : Run steps) (m : A) → AnyItem p (λ x. x ≡ m) → Contains p.items m
+in_items p m (k, h, there) = (k, omega (arith, p.long), go (p.at k) (p.reads k m h) there)
+  where
+    go : (o : Option _) → option_map (λ y. y) o ≡ Some (get_or p.items k m) → IsSomeAnd o (λ x. x ≡ m) → get_or p.items k m ≡ m
+    go None e there = absurd there
+    go (Some x) e there = cc
 
-before_from : (a b : Closing) → Sooner a b → before a b ≡ true
-before_from a b (inl t) = or_left _ _ (lt-ltb a.until b.until t)
-before_from a b (inr (e, t)) = or_right _ _ (and_from _ _ (eq-eqb a.until b.until e) (lt-ltb a.number b.number t))
+-- the least of the lots that are past is the first
+pub first_found : {S : Type 0} {steps : S → Option Closing → S → Type 0} (p : Run steps) (lots : List Closing) (n : ℕ) (ends : ℕ → ℕ) (from r : Option Closing)
+    → p.items ≡ filter (is_past from) lots → length lots ≡ n → ((k : ℕ) → k < n → get_or lots k (closing ends 0) ≡ closing ends k)
+    → MatchOption r (p.len ≡ 0) (λ m. AnyItem p (λ x. x ≡ m)) → MatchOption r (length p.items ≡ 0) (λ m. All (λ x. before x m ≡ false) p.items) → FindsFirst n ends from r
+first_found p lots n ends from r is many each any least = go r any least
+  where
+    kept : (k : ℕ) → k < n → is_past from (closing ends k) ≡ true → Contains p.items (closing ends k)
+    kept k h past =
+        let there : Contains lots (closing ends k) = subst (Contains lots) (each k h) (Contains-get_or lots k (closing ends 0) (omega arith)) in
+        subst (λ xs. Contains xs (closing ends k)) (sym is) (Contains-filter (is_past from) lots (closing ends k) there past)
 
-sooner_trans : (a b c : Closing) → Sooner a b → Sooner b c → Sooner a c
-sooner_trans a b c (inl x) (inl y) = inl (omega arith)
-sooner_trans a b c (inl x) (inr y) = inl (omega arith)
-sooner_trans a b c (inr x) (inl y) = inl (omega arith)
-sooner_trans a b c (inr x) (inr y) = inr (omega arith, omega arith)
-
-never_sooner : (a : Closing) → Sooner a a → ⊥
-never_sooner a (inl x) = omega arith
-never_sooner a (inr x) = omega arith
-
-pub before_itself : (a : Closing) → before a a ≡ false
-before_itself a = ⊎_elim (λ e. absurd (never_sooner a (before_true a a e))) (λ e. e) (cases_Bool (before a a))
-
--- what does not come before a closing does not come before what is before that
-pub before_least : (a b c : Closing) → before a c ≡ false → before b c ≡ true → before a b ≡ false
-before_least a b c late soon =
-    ⊎_elim (λ e. absurd (both_ways (before a c) late (before_from a c (sooner_trans a b c (before_true a b e) (before_true b c soon))))) (λ e. e) (cases_Bool (before a b))
-
--- one lot more is looked at, and it is the first now
-takes_more : (n : ℕ) (ends : ℕ → ℕ) (from r : Option Closing) → FindsFirst n ends from r → is_between from (closing ends n) r ≡ true → FindsFirst (n + 1) ends from (Some (closing ends n))
-takes_more n ends from None none between =
-    record {
-      lot = omega arith;
-      tick = refl;
-      past = (and_parts (is_past from (closing ends n)) _ between).0;
-      least = below_more (λ k. is_past from (closing ends k) ≡ true → before (closing ends k) (closing ends n) ≡ false) n (λ k h e. absurd (both_ways _ (none k h) e)) (λ e. before_itself (closing ends n));
-    }
-takes_more n ends from (Some c) first between =
-    let parts = and_parts (is_past from (closing ends n)) (before (closing ends n) c) between in
-    record {
-      lot = omega arith;
-      tick = refl;
-      past = parts.0;
-      least = below_more (λ k. is_past from (closing ends k) ≡ true → before (closing ends k) (closing ends n) ≡ false) n
-          (λ k h e. before_least (closing ends k) (closing ends n) c (first.least k h e) parts.1) (λ e. before_itself (closing ends n));
-    }
-
-pub first_taken : (n : ℕ) (ends : ℕ → ℕ) (from r s : Option Closing) (x : Closing) → FindsFirst n ends from r → x ≡ closing ends n → true ≡ is_between from x r → s ≡ Some x → FindsFirst (n + 1) ends from s
-first_taken n ends from r s x found e between is =
-    subst (λ (o : Option Closing). FindsFirst (n + 1) ends from o) (sym (is ∙ ap {B = Option Closing} (λ (y : Closing). Some y) e))
-    (takes_more n ends from r found (ap (λ (y : Closing). is_between from y r) (sym e) ∙ sym between))
-
--- or it is not
-skips_more : (n : ℕ) (ends : ℕ → ℕ) (from r : Option Closing) → FindsFirst n ends from r → is_between from (closing ends n) r ≡ false → FindsFirst (n + 1) ends from r
-skips_more n ends from None none out =
-    below_more (λ k. is_past from (closing ends k) ≡ false) n none (⊎_elim (λ e. e) (λ e. absurd (both_ways true e refl)) (and_cases (is_past from (closing ends n)) true out))
-skips_more n ends from (Some c) first out =
-    record {
-      lot = omega (arith, first.lot);
-      tick = first.tick;
-      past = first.past;
-      least = below_more (λ k. is_past from (closing ends k) ≡ true → before (closing ends k) c ≡ false) n first.least
-          (λ past. ⊎_elim (λ e. absurd (both_ways (is_past from (closing ends n)) e past)) (λ e. e) (and_cases (is_past from (closing ends n)) (before (closing ends n) c) out));
-    }
-
-pub first_stays : (n : ℕ) (ends : ℕ → ℕ) (from r s : Option Closing) (x : Closing) → FindsFirst n ends from r → x ≡ closing ends n → false ≡ is_between from x r → s ≡ r → FindsFirst (n + 1) ends from s
-first_stays n ends from r s x found e out is =
-    subst (λ (o : Option Closing). FindsFirst (n + 1) ends from o) (sym is) (skips_more n ends from r found (ap (λ (y : Closing). is_between from y r) (sym e) ∙ sym out))
+    go : (r : Option Closing) → MatchOption r (p.len ≡ 0) (λ m. AnyItem p (λ x. x ≡ m)) → MatchOption r (length p.items ≡ 0) (λ m. All (λ x. before x m ≡ false) p.items) → FindsFirst n ends from r
+    go None any least = λ k h. ⊎_elim (λ t. let there = kept k h t in absurd (omega (arith, there.1))) (λ e. e) (cases_Bool (is_past from (closing ends k)))
+    go (Some c) any least =
+        let Is : Closing → Type 0 = λ x. (x.number < n) × (x.until ≡ ends x.number) in
+        let all : All Is lots = All-from_get_or Is lots (closing ends 0) (λ k h. subst Is (sym (each k (omega arith))) (omega arith, refl)) in
+        let here : Contains (filter (is_past from) lots) c = subst (λ xs. Contains xs c) is (in_items p c any) in
+        let lot = All-contains Is _ c (All-filter (is_past from) Is lots all) here in
+        record {
+          lot = lot.0;
+          tick = lot.1;
+          past = All-contains (λ x. is_past from x ≡ true) _ c (filter_passes (is_past from) lots) here;
+          least = λ k h past. All-contains (λ x. before x c ≡ false) _ _ least (kept k h past);
+        }
 
 -- the first is the same where the ticks are
 pub same_finds : (n p : ℕ) (ends stops : ℕ → ℕ) (from r : Option Closing) → p ≡ n → ((k : ℕ) → k < n → stops k ≡ ends k) → FindsFirst n ends from r → FindsFirst p stops from r
@@ -116,47 +89,12 @@ module _ (m : List ℕ) (h : Header) (s : Stands m h) where
   pub until_stands : (k : ℕ) → k < h.count → (lot_of_list (lots_in m) k).until ≡ (lot_words m k).until
   until_stands k less = ap (λ (os : List Lot). (lot_of_list os k).until) lots_stand ∙ s.until k less
 
-  pub pieces_stand : (k : ℕ) → k < h.count → (lot_of_list (lots_in m) k).pieces ≡ (lot_words m k).pieces
-  pieces_stand k less = ap (λ (os : List Lot). (lot_of_list os k).pieces) lots_stand ∙ s.pieces k less
-
-  pub numbered_there : (k : ℕ) → k < h.count → Some (lot_words m k) ≡ numbered (lots_in m) k
-  numbered_there k less =
-      ap₂ {C = Option LotWords} (λ (p u : ℕ). Some (record { pieces = p; until = u })) (sym (pieces_stand k less)) (sym (until_stands k less))
-      ∙ sym (pick_yes (Some (record { pieces = (lot_of_list (lots_in m) k).pieces; until = (lot_of_list (lots_in m) k).until })) None (lt-ltb k (length (lots_in m)) (omega (arith, count_stands))))
-
-  pub place_there : (k : ℕ) → k < h.count → Some (lot_at k) ≡ place_of (lots_in m) k
-  place_there k less = sym (pick_yes (Some (lot_at k)) None (lt-ltb k (length (lots_in m)) (omega (arith, count_stands))))
-
   pub next_stands : (from r : Option Closing) → FindsFirst h.count (λ k. (lot_words m k).until) from r → NextClosing (lots_in m) from r
-  next_stands from r found = same_finds h.count (length (lots_in m)) (λ k. (lot_words m k).until) (λ k. (lot_of_list (lots_in m) k).until) from r count_stands until_stands found
+  next_stands from r found = grind (arith, common_steps, same_finds, count_stands, until_stands)
 
-  pub closed_stands : how_many_closed h.now (map (lot_in (limits_in m) m) (range_with_len 0 h.count)) ≡ how_many_closed (house_in m).now (lots_in m)
-  unfolding house_in
-  closed_stands =
-      let counted : h.count ≡ get_or m count_at 0 = ap (λ (x : Header). x.count) s.header in
-      ap₂ (λ (t : ℕ) (os : List Lot). how_many_closed t os) (sym s.time) (ap (λ (n : ℕ). map (lot_in (limits_in m) m) (range_with_len 0 n)) counted ∙ sym lots_stand)
+-- how many are closed, counted by number
+count_by-map : {X : Type 0} (p : X → Bool) (f : ℕ → X) (xs : List ℕ) → count_by p (map f xs) ≡ count_by (λ k. p (f k)) xs
+count_by-map p f xs = grind (arith, common_steps, sum-map, map-map)
 
--- a number that no lot has
-pub numbered_not : (os : List Lot) (k : ℕ) → length os ≤ k → None ≡ numbered os k
-numbered_not os k past = sym (pick_no _ None (le-ltb k (length os) past))
-
-pub place_not : (os : List Lot) (k : ℕ) → length os ≤ k → None ≡ place_of os k
-place_not os k past = sym (pick_no _ None (le-ltb k (length os) past))
-
--- one lot more is counted, or not
-abbrev ClosedSoFar : List ℕ → ℕ → ℕ → ℕ → Type 0
-ClosedSoFar m t n a = (a ≡ how_many_closed t (map (lot_in (limits_in m) m) (range_with_len 0 n))) × (a ≤ n)
-
-closed_more : (m : List ℕ) (t n : ℕ) (b : Bool) → leb (lot_words m n).until t ≡ b →
-    how_many_closed t (map (lot_in (limits_in m) m) (range_with_len 0 (n + 1))) ≡ how_many_closed t (map (lot_in (limits_in m) m) (range_with_len 0 n)) + cond b 1 0
-closed_more m t n b e =
-    sum_by-map-range_with_len_more (λ (o : Lot). cond (leb o.until t) 1 0) (lot_in (limits_in m) m) 0 n n (omega arith)
-    ∙ ap (λ (x : Bool). how_many_closed t (map (lot_in (limits_in m) m) (range_with_len 0 n)) + cond x 1 0) e
-
-pub closed_counts : (m : List ℕ) (t n a b : ℕ) (x : Closing) → ClosedSoFar m t n a → x ≡ closing (λ k. (lot_words m k).until) n → true ≡ leb x.until t → b ≡ a + 1 → ClosedSoFar m t (n + 1) b
-closed_counts m t n a b x so e by is =
-    (is ∙ ap (λ (y : ℕ). y + 1) so.0 ∙ sym (closed_more m t n true (ap (λ (y : Closing). leb y.until t) (sym e) ∙ sym by)), omega (arith, so.1))
-
-pub closed_stays : (m : List ℕ) (t n a b : ℕ) (x : Closing) → ClosedSoFar m t n a → x ≡ closing (λ k. (lot_words m k).until) n → false ≡ leb x.until t → b ≡ a → ClosedSoFar m t (n + 1) b
-closed_stays m t n a b x so e by is =
-    (is ∙ so.0 ∙ sym (closed_more m t n false (ap (λ (y : Closing). leb y.until t) (sym e) ∙ sym by) ∙ add-zero _), omega (arith, so.1))
+pub closed_counted : (m : List ℕ) (t n : ℕ) → length (filter (λ k. leb (lot_words m k).until t) (range_with_len 0 n)) ≡ how_many_closed t (map (lot_in (limits_in m) m) (range_with_len 0 n))
+closed_counted m t n = grind (arith, common_steps, length-filter, count_by-map)

@@ -1,16 +1,16 @@
 -- The house that words hold. Assumes nothing.
-use Rattle.std.proofs.Common.{◌≡◌, ℕ, suc, ◌<◌, ◌≤◌, true, false, leb, List, [], ◌∷◌, map, length, get_or, sym, refl, ap, ◌∙◌, subst, ap₂, ⊎_elim, zero-add, arith}
+use Rattle.std.proofs.lemmas.Grind.{common_steps}
+use Rattle.std.proofs.Common.{◌≡◌, ℕ, suc, ◌<◌, ◌≤◌, true, false, List, [], ◌∷◌, map, length, get_or, refl, ap, ◌∙◌, ⊎_elim, zero-add, arith}
 use Rattle.std.specs.List.{range_with_len}
 use Rattle.std.proofs.lemmas.List.FromFn.{length-map-range_with_len, get_or-map-range_with_len}
-use Rattle.std.proofs.lemmas.Bool.{cases_Bool, and_parts, and_from, leb-true, ltb-true, le-leb, lt-ltb}
-use Rattle.auction.specs.House.{House, Lot, the_lot}
+use Rattle.std.proofs.lemmas.Bool.{cases_Bool, and_from, lt-ltb}
+use Rattle.auction.specs.House.{Lot, the_lot}
 use Rattle.auction.specs.Promise.{all_below}
 use Rattle.ledger.specs.declared.layout.Limits.{Limits}
 use Rattle.ledger.specs.declared.standing.Header.{Header}
-use Rattle.ledger.specs.Layout.{Good, good, now_at, count_at, house_words}
+use Rattle.ledger.specs.Layout.{Good, now_at, count_at, house_words}
 use Rattle.ledger.specs.Words.{bids_at}
 use Rattle.ledger.specs.Houses.{limits_in, header_in, made_in, lot_in, house_in, fits, is_house, Stands}
-use Rattle.ledger.proofs.Places.{good_facts}
 
 -- the tests of a header, as facts
 pub record FitsFacts (h : Header) (n : ℕ) : Type 0 where
@@ -20,20 +20,10 @@ pub record FitsFacts (h : Header) (n : ℕ) : Type 0 where
   pub early : h.now < 16777216
 
 pub fits_facts : (h : Header) (n : ℕ) → fits h n ≡ true → FitsFacts h n
-fits_facts h n e =
-    let one = and_parts (good h.limits) _ e in
-    let two = and_parts (leb (house_words h.limits) n) _ one.1 in
-    let three = and_parts (leb h.count h.limits.lots) _ two.1 in
-    record {
-      good = (good_facts h.limits).0 one.0;
-      room = leb-true _ _ two.0;
-      few = leb-true _ _ three.0;
-      early = ltb-true _ _ three.1;
-    }
+fits_facts h n e = grind (arith, common_steps)
 
 pub facts_fit : (h : Header) (n : ℕ) → FitsFacts h n → fits h n ≡ true
-facts_fit h n f =
-    and_from _ _ ((good_facts h.limits).1 f.good) (and_from _ _ (le-leb _ _ f.room) (and_from _ _ (le-leb _ _ f.few) (lt-ltb _ _ f.early)))
+facts_fit h n f = grind (arith, common_steps)
 
 pub house_facts : (m : List ℕ) → is_house m ≡ true → FitsFacts (header_in m) (length m)
 unfolding is_house
@@ -46,7 +36,7 @@ many_lots m = length-map-range_with_len (lot_in (limits_in m) m) 0 (get_or m cou
 
 pub lot_there : (m : List ℕ) (k : ℕ) → k < get_or m count_at 0 → the_lot (house_in m) k ≡ lot_in (limits_in m) m k
 unfolding house_in
-lot_there m k h = get_or-map-range_with_len (lot_in (limits_in m) m) 0 (get_or m count_at 0) k k _ h (zero-add k)
+lot_there m k h = grind (arith, common_steps, get_or-map-range_with_len)
 
 pub bids_there : (l : Limits) (m : List ℕ) (k b : ℕ) → b < l.bidders → get_or (made_in l m k) b [] ≡ bids_at l m k b
 bids_there l m k b h = get_or-map-range_with_len (bids_at l m k) 0 l.bidders b b [] h (zero-add b)
@@ -72,10 +62,6 @@ standing m e =
       bids = λ k b h hb. ap (λ (o : Lot). get_or o.made b []) (lot_there m k h) ∙ bids_there l m k b hb;
     }
 
-pub stands_by : (m : List ℕ) (h : Header) → h ≡ header_in m → fits h (length m) ≡ true → Stands m h
-unfolding is_house
-stands_by m h e t = subst (λ x. Stands m x) (sym e) (standing m (ap (λ x. fits x (length m)) (sym e) ∙ t))
-
 -- what a house is by its header's words
 pub same_limits : (m w : List ℕ) → get_or w 0 0 ≡ get_or m 0 0 → get_or w 1 0 ≡ get_or m 1 0 → get_or w 2 0 ≡ get_or m 2 0 → limits_in w ≡ limits_in m
 same_limits m w a b c = cc
@@ -85,11 +71,7 @@ same_header m w t n e a b = cc
 
 pub house_by : (w : List ℕ) (l : Limits) (t n : ℕ) → limits_in w ≡ l → get_or w now_at 0 ≡ t → get_or w count_at 0 ≡ n → house_in w ≡ record { now = t; lots = map (lot_in l w) (range_with_len 0 n) }
 unfolding house_in
-house_by w l t n e a b = ap₂ {C = House} (λ x y. record { now = x; lots = map (lot_in y w) (range_with_len 0 (get_or w count_at 0)) }) a e ∙ ap {B = House} (λ x. record { now = t; lots = map (lot_in l w) (range_with_len 0 x) }) b
-
-pub no_house_by : (m : List ℕ) (h : Header) → h ≡ header_in m → fits h (length m) ≡ false → is_house m ≡ false
-unfolding is_house
-no_house_by m h e t = ap (λ x. fits x (length m)) (sym e) ∙ t
+house_by w l t n e a b = grind (arith, common_steps)
 
 -- no house is smaller than one with one bidder and no lots
 pub too_short : (m : List ℕ) → length m < 655360 → is_house m ≡ false

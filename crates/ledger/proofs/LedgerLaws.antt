@@ -1,11 +1,11 @@
 -- The laws of the lent memory, from the lemmas by subject. Assumes nothing.
+use Rattle.std.proofs.lemmas.Grind.{common_steps}
 use Rattle.std.proofs.Common.{◌≡◌, ℕ, ◌+◌, ◌*◌, ◌<◌, ◌≤◌, List, length, get_or, refl, ⊎_elim, arith}
 use Rattle.std.proofs.lemmas.Bool.{cases_lt, cases_order}
 use Rattle.auction.specs.Bids.{Bids}
 use Rattle.ledger.specs.declared.layout.Limits.{Limits}
 use Rattle.ledger.specs.Layout.{HasRow, count_at, row_at, row_size, house_words}
 use Rattle.ledger.specs.Words.{with_row, row_over, row_words}
-use Rattle.ledger.specs.Houses.{house_in}
 use Rattle.ledger.specs.Laws.{OpenedIsNew, WordsPromised, InRow, NoWordTwice, RowWritten, RowsComeBack, BidsLand, LotsLand, TimeLands}
 use Rattle.ledger.proofs.Parts.{over_over}
 use Rattle.ledger.proofs.Places.{row_within, row_before, same_number, lot_within}
@@ -70,4 +70,4 @@ lots_land = λ m n t can s more hn ht. (lot_house m (get_or m count_at 0) n t s 
 
 pub time_lands : TimeLands
 unfolding TimeLands
-time_lands = λ m n can s early. (now_house m ((house_in m).now + n) s.house, now_sound m ((house_in m).now + n) s.house early s)
+time_lands = grind (arith, common_steps, now_house, now_sound)

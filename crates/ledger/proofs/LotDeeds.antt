@@ -1,18 +1,19 @@
 -- One lot more: what that does to the house that the words hold, and that it leaves them sound. Assumes nothing.
-use Rattle.std.proofs.Common.{◌≡◌, ℕ, zero, suc, ◌+◌, ◌<◌, ◌≤◌, Bool, ◌≢◌, List, [], ◌∷◌, ◌++◌, map, length, get_or, drop, set, sym, refl, ap, ◌∙◌, subst, ap₂, ⊎_elim, arith}
+use Rattle.std.proofs.lemmas.Grind.{common_steps}
+use Rattle.std.proofs.Common.{◌≡◌, ℕ, zero, suc, ◌+◌, ◌<◌, ◌≤◌, Bool, ◌≢◌, List, [], ◌∷◌, ◌++◌, map, length, get_or, drop, sym, refl, ap, ◌∙◌, subst, ap₂, ⊎_elim, arith}
 use Rattle.std.specs.List.{range_with_len}
 use Rattle.std.proofs.lemmas.List.FromFn.{map-range_with_len_more}
-use Rattle.std.proofs.lemmas.List.{length-set, get_or-set_same, get_or-set_other, length-take, get_or-take, get_or-drop}
+use Rattle.std.proofs.lemmas.List.{length-take, get_or-take, get_or-drop}
 use Rattle.std.proofs.lemmas.Bool.{cases_eq}
 use Rattle.auction.specs.Bids.{Bids}
 use Rattle.auction.specs.House.{House, Lot, nobody, changed, opens}
 use Rattle.ledger.specs.Layout.{now_at, count_at, lot_at, row_at, row_size, house_words}
-use Rattle.ledger.specs.Words.{bids_in, row_part, bids_at}
-use Rattle.ledger.specs.Houses.{limits_in, limits_of, header_in, made_in, lot_in, house_in, Sound, with_lot}
-use Rattle.ledger.proofs.Parts.{same_part, map_same}
+use Rattle.ledger.specs.Words.{row_part, bids_at}
+use Rattle.ledger.specs.Houses.{limits_in, limits_of, header_in, lot_in, house_in, Sound, with_lot}
+use Rattle.ledger.proofs.Parts.{map_same}
 use Rattle.ledger.proofs.Places.{past, row_within, row_before, lot_within, first_row}
 use Rattle.ledger.proofs.RowWords.{bids_zero}
-use Rattle.ledger.proofs.Houses.{FitsFacts, house_facts, same_limits, same_header, house_by}
+use Rattle.ledger.proofs.Houses.{FitsFacts, house_facts, same_header, house_by}
 use Rattle.ledger.proofs.Sounds.{same_lot, sound_by}
 
 -- nobody has bid
@@ -24,27 +25,19 @@ nobody_is f (suc n) a none = ap₂ (λ x xs. x ∷ xs) (none a (omega arith)) (n
 -- the words with one lot more: three are others
 module _ (m : List ℕ) (k p t : ℕ) (room : lot_at k + 1 < length m) where
   pub length-with_lot : length (with_lot m k p t) ≡ length m
-  length-with_lot = length-set (set (set m (lot_at k) p) (lot_at k + 1) t) count_at (k + 1) ∙ length-set (set m (lot_at k) p) (lot_at k + 1) t ∙ length-set m (lot_at k) p
+  length-with_lot = grind (arith, common_steps)
 
   pub lot_other : (i : ℕ) → i ≢ lot_at k → i ≢ lot_at k + 1 → i ≢ count_at → get_or (with_lot m k p t) i 0 ≡ get_or m i 0
-  lot_other i a b c =
-      get_or-set_other (set (set m (lot_at k) p) (lot_at k + 1) t) count_at i (k + 1) 0 c ∙ get_or-set_other (set m (lot_at k) p) (lot_at k + 1) i t 0 b ∙ get_or-set_other m (lot_at k) i p 0 a
+  lot_other i a b c = grind (arith, common_steps)
 
   pub lot_count : get_or (with_lot m k p t) count_at 0 ≡ k + 1
-  lot_count =
-      get_or-set_same (set (set m (lot_at k) p) (lot_at k + 1) t) count_at (k + 1) 0 (omega (arith, length-set (set m (lot_at k) p) (lot_at k + 1) t, length-set m (lot_at k) p))
+  lot_count = grind (arith, common_steps)
 
   pub lot_until : get_or (with_lot m k p t) (lot_at k + 1) 0 ≡ t
-  lot_until =
-      let apart : lot_at k + 1 ≢ count_at = λ e. omega arith in
-      get_or-set_other (set (set m (lot_at k) p) (lot_at k + 1) t) count_at (lot_at k + 1) (k + 1) 0 apart ∙ get_or-set_same (set m (lot_at k) p) (lot_at k + 1) t 0 (omega (arith, length-set m (lot_at k) p))
+  lot_until = grind (arith, common_steps)
 
   pub lot_pieces : get_or (with_lot m k p t) (lot_at k) 0 ≡ p
-  lot_pieces =
-      let apart : lot_at k ≢ count_at = λ e. omega arith in
-      let next : lot_at k ≢ lot_at k + 1 = λ e. omega arith in
-      get_or-set_other (set (set m (lot_at k) p) (lot_at k + 1) t) count_at (lot_at k) (k + 1) 0 apart ∙ get_or-set_other (set m (lot_at k) p) (lot_at k + 1) (lot_at k) t 0 next
-      ∙ get_or-set_same m (lot_at k) p 0 (omega arith)
+  lot_pieces = grind (arith, common_steps)
 
   -- below the count, between it and the lot, and behind the lot nothing is changed
   pub lot_below : (i : ℕ) → i < count_at → get_or (with_lot m k p t) i 0 ≡ get_or m i 0
@@ -65,13 +58,11 @@ module _ (m : List ℕ) (n p t : ℕ) (s : Sound m) (here : get_or m count_at 0 
   fits_lot = omega (arith, lot_facts.room)
 
   lot_limits : limits_in (with_lot m n p t) ≡ limits_in m
-  lot_limits = same_limits m (with_lot m n p t) (lot_below m n p t fits_lot 0 (omega arith)) (lot_below m n p t fits_lot 1 (omega arith)) (lot_below m n p t fits_lot 2 (omega arith))
+  lot_limits = grind (arith, common_steps)
 
   -- a row has none of the words that are written
   lot_rows : (k b : ℕ) → row_part (limits_in m) (with_lot m n p t) k b ≡ row_part (limits_in m) m k b
-  lot_rows k b =
-      let low = lot_within (limits_in m) n k b more in
-      same_part (with_lot m n p t) m (row_at (limits_in m) k b) (row_size (limits_in m)) (length-with_lot m n p t fits_lot) (λ i from to. lot_above m n p t fits_lot i (omega arith))
+  lot_rows k b = grind (arith, common_steps)
 
   -- nor is anything in the new lot's rows yet
   none_yet : (b : ℕ) → b < get_or m 1 0 → bids_at (limits_in m) m n b ≡ []
@@ -85,14 +76,7 @@ module _ (m : List ℕ) (n p t : ℕ) (s : Sound m) (here : get_or m count_at 0 
       (λ i hi. get_or-take (row_size l) (drop (row_at l n b) m) i 0 (omega arith) ∙ get_or-drop (row_at l n b) m i 0 ∙ zero_rest (row_at l n b + i) (omega arith) (omega arith))
 
   new_lot : lot_in (limits_in m) (with_lot m n p t) n ≡ record { pieces = p; until = t; made = nobody (get_or m 1 0) }
-  new_lot =
-      let l = limits_in m in
-      let v : List ℕ = with_lot m n p t in
-      let pieces = lot_pieces m n p t fits_lot in
-      let until = lot_until m n p t fits_lot in
-      let made : made_in l v n ≡ nobody l.bidders =
-      map_same (bids_at l m n) (bids_at l v n) l.bidders (λ b h. ap bids_in (lot_rows n b)) ∙ nobody_is (bids_at l m n) l.bidders 0 (λ b h. none_yet b (omega arith)) in
-      cc
+  new_lot = grind (arith, common_steps, lot_pieces, fits_lot, lot_until, map_same, lot_rows, nobody_is, none_yet)
 
   old_lot : (k : ℕ) → k < n → lot_in (limits_in m) (with_lot m n p t) k ≡ lot_in (limits_in m) m k
   old_lot k h =

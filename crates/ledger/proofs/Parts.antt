@@ -1,8 +1,9 @@
 -- Lists with a part written over, and lists made by counting with one element changed. Assumes nothing.
+use Rattle.std.proofs.lemmas.Grind.{common_steps}
 use Rattle.std.proofs.Common.{◌≡◌, ℕ, zero, suc, ◌+◌, ◌-◌, ◌<◌, ◌≤◌, ◌≢◌, List, ◌++◌, map, length, get_or, take, drop, set, replicate, sym, refl, ap, ◌∙◌, ap₂, ⊎_elim, zero-add, arith}
 use Rattle.std.specs.List.{range_with_len}
 use Rattle.std.proofs.lemmas.List.FromFn.{length-map-range_with_len, get_or-map-range_with_len, fill_by_all}
-use Rattle.std.proofs.lemmas.List.{same_lists, length-append, length-take, length-take-le, length-drop, length-set, take_at, drop_at, drop-drop, get_or_append_left, get_or-append_right, get_or-take, get_or-drop, get_or-set_same, get_or-set_other, get_or_default}
+use Rattle.std.proofs.lemmas.List.{same_lists, length-take, length-take-le, length-drop, length-set, take_at, drop_at, drop-drop, get_or-take, get_or-drop, get_or-set_same, get_or-set_other, get_or_default}
 use Rattle.std.proofs.lemmas.Bool.{cases_eq}
 
 -- two lists with the same words in a part have the same part
@@ -25,21 +26,19 @@ module _ (xs ys : List ℕ) (a n : ℕ) (room : a + n ≤ length xs) (long : len
   front = length-take-le a xs (omega arith)
 
   pub length_over : length (take a xs ++ (ys ++ drop (a + n) xs)) ≡ length xs
-  length_over = omega (arith, front, length-append (take a xs) (ys ++ drop (a + n) xs), length-append ys (drop (a + n) xs), length-drop (a + n) xs)
+  length_over = grind (arith, common_steps)
 
   pub over_below : (i : ℕ) → i < a → get_or (take a xs ++ (ys ++ drop (a + n) xs)) i 0 ≡ get_or xs i 0
-  over_below i h = get_or_append_left (take a xs) _ 0 i (omega (arith, front)) ∙ get_or-take a xs i 0 h
+  over_below i h = grind (arith, common_steps)
 
   pub over_above : (i : ℕ) → a + n ≤ i → get_or (take a xs ++ (ys ++ drop (a + n) xs)) i 0 ≡ get_or xs i 0
-  over_above i h =
-      let there : a + n + (i - a - n) ≡ i = omega arith in
-      get_or-append_right (take a xs) _ a i 0 front (omega arith) ∙ get_or-append_right ys _ n (i - a) 0 long (omega arith) ∙ get_or-drop (a + n) xs (i - a - n) 0 ∙ ap (λ j. get_or xs j 0) there
+  over_above i h = grind (arith, common_steps)
 
   pub over_within : (i : ℕ) → a ≤ i → i < a + n → get_or (take a xs ++ (ys ++ drop (a + n) xs)) i 0 ≡ get_or ys (i - a) 0
-  over_within i h h' = get_or-append_right (take a xs) _ a i 0 front h ∙ get_or_append_left ys _ 0 (i - a) (omega arith)
+  over_within i h h' = grind (arith, common_steps)
 
   pub part_over : take n (drop a (take a xs ++ (ys ++ drop (a + n) xs))) ≡ ys
-  part_over = ap (take n) (drop_at (take a xs) _ a front) ∙ take_at ys _ n long
+  part_over = grind (arith, common_steps)
 
   -- what is written over twice is as if it had been once
   pub over_over : (zs : List ℕ) → let once : List ℕ = take a xs ++ (ys ++ drop (a + n) xs) in take a once ++ (zs ++ drop (a + n) once) ≡ take a xs ++ (zs ++ drop (a + n) xs)

@@ -1,9 +1,9 @@
 -- Places in the lent memory: what lies within what, and what lies apart. One lemma, `past`, carries the products. Assumes nothing.
-use Rattle.std.proofs.Common.{◌≡◌, ℕ, ◌+◌, ◌*◌, ◌/◌, ◌%◌, ◌<◌, ◌≤◌, Decides, sym, ap, ◌∙◌, mul-le-mul_right, suc-mul, arith}
-use Rattle.std.proofs.lemmas.Nat.{mul-le, div-mul-add, mod-mul-add}
-use Rattle.std.proofs.lemmas.Bool.Decides.{nat_tests}
+use Rattle.std.proofs.lemmas.Grind.{common_steps}
+use Rattle.std.proofs.Common.{◌≡◌, ℕ, ◌+◌, ◌*◌, ◌/◌, ◌%◌, ◌<◌, ◌≤◌, sym, ap, ◌∙◌, mul-le-mul_right, suc-mul, arith}
+use Rattle.std.proofs.lemmas.Nat.{div-mul-add, mod-mul-add}
 use Rattle.ledger.specs.declared.layout.Limits.{Limits}
-use Rattle.ledger.specs.Layout.{Good, good, lot_at, row_at, row_size, tables_at}
+use Rattle.ledger.specs.Layout.{lot_at, row_at, row_size, tables_at}
 
 -- before a later row there is room for an earlier one
 pub past : (q r e : ℕ) → q < r → q * e + e ≤ r * e
@@ -13,17 +13,9 @@ past q r e h = omega (arith, suc-mul q e, mul-le-mul_right e h)
 pub row_number : (k b n m : ℕ) → k < n → b < m → k * m + b < n * m
 row_number k b n m hk hb = omega (arith, past k n m hk)
 
-pub good_facts : (l : Limits) → Decides (good l) (Good l)
-good_facts l = (λ e. grind (arith, nat_tests), λ h. grind (arith, nat_tests))
-
--- all rows together
-pub rows_bound : (l : Limits) → Good l → l.lots * l.bidders * l.each ≤ 2097152
-rows_bound l h = mul-le (l.lots * l.bidders) l.each 131072 16 (mul-le l.lots l.bidders 4096 32 h.0 h.2) h.3
-
 -- a row ends where the tables begin, or before
 pub row_within : (l : Limits) (k b : ℕ) → k < l.lots → b < l.bidders → row_at l k b + row_size l ≤ tables_at l
-row_within l k b hk hb =
-    omega (arith, past (k * l.bidders + b) (l.lots * l.bidders) l.each (row_number k b l.lots l.bidders hk hb))
+row_within l k b hk hb = grind (arith, common_steps)
 
 -- of two rows one ends where the other begins, or before
 pub row_before : (l : Limits) (k b j c : ℕ) → k * l.bidders + b < j * l.bidders + c → row_at l k b + row_size l ≤ row_at l j c
@@ -40,10 +32,8 @@ lot_within l k j c h = omega arith
 
 -- of the bidders' rows on one lot the first begins first
 pub first_row : (l : Limits) (k b : ℕ) → row_at l k 0 ≤ row_at l k b
-first_row l k b = let later : k * l.bidders + 0 ≤ k * l.bidders + b = omega arith in omega (arith, mul-le-mul_right l.each later)
+first_row l k b = grind (arith, common_steps)
 
 -- the rows of the lots that are not open yet begin before the tables
 pub rows_before_tables : (l : Limits) (n : ℕ) → n ≤ l.lots → row_at l n 0 ≤ tables_at l
-rows_before_tables l n h =
-    let none : n * l.bidders + 0 ≡ n * l.bidders = omega arith in
-    omega (arith, mul-le-mul_right l.each (mul-le-mul_right l.bidders h), ap (λ q. q * l.each) none)
+rows_before_tables l n h = grind (arith, common_steps)

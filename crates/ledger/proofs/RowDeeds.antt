@@ -1,11 +1,12 @@
 -- A row of bids is written: what that does to the house that the words hold, and that it leaves them sound. Assumes nothing.
+use Rattle.std.proofs.lemmas.Grind.{common_steps}
 use Rattle.std.proofs.Common.{◌≡◌, ℕ, ◌+◌, ◌-◌, ◌*◌, ◌<◌, ◌≤◌, Bool, true, ◌≢◌, List, length, get_or, set, sym, ap, ◌∙◌, subst, ⊎_elim, arith}
-use Rattle.std.proofs.lemmas.Bool.{cases_lt, cases_order}
+use Rattle.std.proofs.lemmas.Bool.{cases_lt}
 use Rattle.auction.specs.Bids.{Bids}
 use Rattle.auction.specs.House.{House, Lot, changed, bids}
 use Rattle.ledger.specs.declared.layout.Limits.{Limits}
-use Rattle.ledger.specs.Layout.{now_at, count_at, lot_at, row_at, row_size, house_words}
-use Rattle.ledger.specs.Words.{bids_in, row_words, row_part, bids_at, row_over, with_row, writable}
+use Rattle.ledger.specs.Layout.{now_at, count_at, row_at, row_size, house_words}
+use Rattle.ledger.specs.Words.{row_words, row_part, bids_at, row_over, with_row, writable}
 use Rattle.ledger.specs.Houses.{limits_in, limits_of, header_in, made_in, lot_in, house_in, is_house, Sound}
 use Rattle.ledger.proofs.Parts.{same_part, length_over, over_below, over_above, over_within, part_over, map_change}
 use Rattle.ledger.proofs.Places.{row_number, row_within, row_before, same_number, lot_within}
@@ -23,31 +24,27 @@ module _ (l : Limits) (m : List ℕ) (k b : ℕ) (bs : Bids) (hk : k < l.lots) (
 
   pub length-with_row : length (with_row l m k b bs) ≡ length m
   unfolding row_over
-  length-with_row = length_over m (row_words (row_size l) bs) (row_at l k b) (row_size l) fits_row whole
+  length-with_row = grind (arith, common_steps, length_over, fits_row, whole)
 
   -- exactly the row's words are others
   pub with_row_below : (i : ℕ) → i < row_at l k b → get_or (with_row l m k b bs) i 0 ≡ get_or m i 0
   unfolding row_over
-  with_row_below = over_below m (row_words (row_size l) bs) (row_at l k b) (row_size l) fits_row whole
+  with_row_below = grind (arith, common_steps, over_below, fits_row, whole)
 
   pub with_row_above : (i : ℕ) → row_at l k b + row_size l ≤ i → get_or (with_row l m k b bs) i 0 ≡ get_or m i 0
   unfolding row_over
-  with_row_above = over_above m (row_words (row_size l) bs) (row_at l k b) (row_size l) fits_row whole
+  with_row_above = grind (arith, common_steps, over_above, fits_row, whole)
 
   pub with_row-within : (i : ℕ) → row_at l k b ≤ i → i < row_at l k b + row_size l → get_or (with_row l m k b bs) i 0 ≡ get_or (row_words (row_size l) bs) (i - row_at l k b) 0
   unfolding row_over
-  with_row-within = over_within m (row_words (row_size l) bs) (row_at l k b) (row_size l) fits_row whole
+  with_row-within = grind (arith, common_steps, over_within, fits_row, whole)
 
   pub row_there : writable bs ≡ true → bids_at l (with_row l m k b bs) k b ≡ bs
   unfolding row_over
-  row_there w = ap bids_in (part_over m (row_words (row_size l) bs) (row_at l k b) (row_size l) fits_row whole) ∙ read_back (row_size l) bs w
+  row_there w = grind (arith, common_steps, part_over, fits_row, whole, read_back)
 
   pub other_row : (j c : ℕ) → j * l.bidders + c ≢ k * l.bidders + b → row_part l (with_row l m k b bs) j c ≡ row_part l m j c
-  other_row j c ne =
-      same_part (with_row l m k b bs) m (row_at l j c) (row_size l) length-with_row
-      (λ i from to. ⊎_elim (λ e. absurd (ne e))
-      (⊎_elim (λ before. with_row_below i (omega (arith, row_before l j c k b before))) (λ after. with_row_above i (omega (arith, row_before l k b j c after))))
-      (cases_order (j * l.bidders + c) (k * l.bidders + b)))
+  other_row j c ne = grind (arith, common_steps, same_part, length-with_row, with_row_below, row_before, with_row_above)
 
   -- no other lot is changed, and of this one nothing but the bidder's bids
   other_lot : (j : ℕ) → j < l.lots → j ≢ k → lot_in l (with_row l m k b bs) j ≡ lot_in l m j
@@ -57,14 +54,7 @@ module _ (l : Limits) (m : List ℕ) (k b : ℕ) (bs : Bids) (hk : k < l.lots) (
       (λ c hc. other_row j c (λ e. ne (same_number j c k b l.bidders hc hb e).0))
 
   this_lot : writable bs ≡ true → lot_in l (with_row l m k b bs) k ≡ record { pieces = (lot_in l m k).pieces; until = (lot_in l m k).until; made = set (made_in l m k) b bs }
-  this_lot w =
-      let low = lot_within l k k b hk in
-      let pieces : get_or (with_row l m k b bs) (lot_at k) 0 ≡ get_or m (lot_at k) 0 = with_row_below _ (omega arith) in
-      let until : get_or (with_row l m k b bs) (lot_at k + 1) 0 ≡ get_or m (lot_at k + 1) 0 = with_row_below _ (omega arith) in
-      let made : made_in l (with_row l m k b bs) k ≡ set (made_in l m k) b bs =
-      map_change (bids_at l m k) (bids_at l (with_row l m k b bs) k) l.bidders b bs hb (row_there w)
-      (λ c hc ne. ap bids_in (other_row k c (λ e. ne (same_number k c k b l.bidders hc hb e).1))) in
-      cc
+  this_lot w = grind (arith, common_steps, lot_within, with_row_below, map_change, row_there, other_row, same_number)
 
 -- the words of a house after a row was written, from what the header says
 module _ (m : List ℕ) (k b : ℕ) (bs : Bids) (house : is_house m ≡ true) (hk : k < get_or m count_at 0) (hb : b < get_or m 1 0) (few : length bs ≤ get_or m 2 0) where
@@ -78,7 +68,7 @@ module _ (m : List ℕ) (k b : ℕ) (bs : Bids) (house : is_house m ≡ true) (h
   low_words i h = with_row_below (limits_in m) m k b bs there hb facts.room few i (omega arith)
 
   limits_stay : limits_in (with_row (limits_in m) m k b bs) ≡ limits_in m
-  limits_stay = same_limits m (with_row (limits_in m) m k b bs) (low_words 0 (omega arith)) (low_words 1 (omega arith)) (low_words 2 (omega arith))
+  limits_stay = grind (arith, common_steps, same_limits, low_words)
 
   pub row_house : writable bs ≡ true → (can : ℕ → Bool) → house_in (with_row (limits_in m) m k b bs) ≡ changed (limits_of can (limits_in m)) (house_in m) (bids k b bs)
   unfolding house_in

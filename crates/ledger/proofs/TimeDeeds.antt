@@ -1,4 +1,5 @@
 -- The time is set: what that does to the house that the words hold, and that it leaves them sound. Assumes nothing.
+use Rattle.std.proofs.lemmas.Grind.{common_steps}
 use Rattle.std.proofs.Common.{◌≡◌, ℕ, ◌+◌, ◌<◌, true, ◌≢◌, List, length, get_or, sym, ap, ◌∙◌, subst, ⊎_elim, arith}
 use Rattle.std.proofs.lemmas.List.{length-set, get_or-set_same, get_or-set_other}
 use Rattle.std.proofs.lemmas.Bool.{cases_eq}
@@ -6,7 +7,7 @@ use Rattle.auction.specs.House.{House}
 use Rattle.ledger.specs.Layout.{now_at, count_at, lot_at, row_at, row_size}
 use Rattle.ledger.specs.Houses.{limits_in, header_in, lot_in, house_in, is_house, Sound, with_now}
 use Rattle.ledger.proofs.Parts.{same_part, map_same}
-use Rattle.ledger.proofs.Houses.{FitsFacts, house_facts, same_limits, same_header, house_by}
+use Rattle.ledger.proofs.Houses.{FitsFacts, house_facts, same_header, house_by}
 use Rattle.ledger.proofs.Sounds.{same_lot, sound_by}
 
 -- the time is set
@@ -21,7 +22,7 @@ module _ (m : List ℕ) (t : ℕ) (house : is_house m ≡ true) where
   now_itself = get_or-set_same m now_at t 0 (omega (arith, now_facts.room))
 
   now_limits : limits_in (with_now m t) ≡ limits_in m
-  now_limits = same_limits m (with_now m t) (now_other 0 (λ e. omega arith)) (now_other 1 (λ e. omega arith)) (now_other 2 (λ e. omega arith))
+  now_limits = grind (arith, common_steps)
 
   pub now_house : house_in (with_now m t) ≡ record { now = t; lots = (house_in m).lots }
   unfolding house_in

@@ -1,11 +1,11 @@
 -- Finding lots: by number, and in the order in which they close. Over the list of lots that words hold, for any words. Assumes nothing: these are definitions.
-use Rattle.std.specs.Prelude.{◌≡◌, ℕ, ◌<◌, Bool, true, false, ◌&&◌, ◌||◌, List, [], length, Some, None, count_by, Option, MatchOption, ◌==◌, nat_le, nat_lt, slice_index_or}
+use Rattle.std.specs.Prelude.{◌≡◌, ℕ, ◌+◌, ◌<◌, Bool, true, false, ◌&&◌, ◌||◌, List, [], length, Some, None, count_by, Option, MatchOption, ◌==◌, nat_le, nat_lt, slice_index_or}
 use Rattle.auction.specs.Bids.{pick}
 use Rattle.auction.specs.House.{Lot}
 use Rattle.ledger.specs.declared.finding.Closing.{Closing}
 use Rattle.ledger.specs.declared.lots.Lot.{Lot as LotWords}
 use Rattle.ledger.specs.Layout.{lot_at}
-use Rattle.ledger.specs.Houses.{house_in, is_house}
+use Rattle.ledger.specs.Houses.{house_in, is_house, lot_words}
 
 -- the lots of the house that words hold, and no lots where they are no house
 unfoldable pub lots_in : List ℕ → List Lot
@@ -21,6 +21,13 @@ numbered os k = pick (nat_lt k (length os)) (Some (record { pieces = (lot_of_lis
 abbrev pub place_of : List Lot → ℕ → Option ℕ
 place_of os k = pick (nat_lt k (length os)) (Some (lot_at k)) None
 
+-- there is such a lot, and it is this one; its words are in the memory
+pub record IsOpen (m : List ℕ) (k lot : ℕ) : Type 0 where
+  pub same : lot ≡ k
+  pub room : lot_at lot + 1 < length m
+  pub words : numbered (lots_in m) k ≡ Some (lot_words m lot)
+  pub place : place_of (lots_in m) k ≡ Some (lot_at lot)
+
 -- how many lots are closed at a tick
 abbrev pub how_many_closed : ℕ → List Lot → ℕ
 how_many_closed t os = count_by (λ (o : Lot). nat_le o.until t) os
@@ -29,17 +36,10 @@ how_many_closed t os = count_by (λ (o : Lot). nat_le o.until t) os
 abbrev pub before : Closing → Closing → Bool
 before a b = nat_lt a.until b.until || (a.until == b.until && nat_lt a.number b.number)
 
--- it comes after a closing, or before one, where one is given
+-- it comes after a closing, where one is given
 abbrev pub is_past : Option Closing → Closing → Bool
 is_past None c = true
 is_past (Some a) c = before a c
-
-abbrev pub is_ahead : Closing → Option Closing → Bool
-is_ahead c None = true
-is_ahead c (Some b) = before c b
-
-abbrev pub is_between : Option Closing → Closing → Option Closing → Bool
-is_between from c to = is_past from c && is_ahead c to
 
 -- of n lots that close at these ticks, lot k; and the first past a closing: it is a lot's, it is past, and none that is past comes before it
 abbrev pub closing : (ℕ → ℕ) → ℕ → Closing

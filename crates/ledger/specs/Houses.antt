@@ -16,12 +16,9 @@ limits_in m = record { lots = slice_index m 0; bidders = slice_index m 1; each =
 abbrev pub header_in : List ℕ → Header
 header_in m = record { limits = limits_in m; now = slice_index m now_at; count = slice_index m count_at }
 
--- the meaning's limits, these and the calls that a house can do; and back
+-- the meaning's limits: these and the calls that a house can do
 abbrev pub limits_of : (ℕ → Bool) → Limits → AllLimits
 limits_of can l = record { calls_can = can; lots = l.lots; bidders = l.bidders; each = l.each }
-
-abbrev pub limits_from : AllLimits → Limits
-limits_from l = record { lots = l.lots; bidders = l.bidders; each = l.each }
 
 -- a lot's own words, and the lot with what each bidder has bid on it
 abbrev pub lot_words : List ℕ → ℕ → LotWords

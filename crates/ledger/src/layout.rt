@@ -1,7 +1,9 @@
 // Where in the lent memory each thing stands: computed here, and nowhere else, from the limits alone.
 // 8 words of header, 8 words a lot, then the rows of bids by lot and bidder, 2 words a bid, and the rest tables for the solver.
-ghost use Rattle.std.specs.Prelude.{◌≡◌};
+ghost use Rattle.std.specs.Prelude.{◌≡◌, ◌+◌, ◌≤◌, true, false, MatchOption};
 ghost use Rattle.ledger.specs.Layout.{Good, HasRow, good, house_words, lot_at, needed, row_at, row_size, tables_at};
+
+use std::ops::Range;
 
 // The header's words: the limits, the time, and how many lots are open so far; three are spare.
 pub const LOTS: usize = 0;
@@ -30,22 +32,34 @@ const TABLES: usize = 524280;
 pub const FEWEST: usize = HEADER + TABLE + TABLES;
 
 // How many lots there may be, how many bidders, and how many bids each may have on a lot.
-#[derive(Clone, Copy, PartialEq, Eq)]
+#[derive(Clone, Copy, Debug, PartialEq, Eq)]
 pub struct Limits {
     pub lots: u32,
     pub bidders: u32,
     pub each: u32,
 }
 
+// Limits that are in range: where each thing stands follows from them.
+#[derive(Clone, Copy, Debug)]
+pub struct Layout {
+    pub limits: Limits,
+    ghost good: { Good limits },
+}
+
+// The place of a bidder's bids on a lot, of a lot and a bidder that the limits have.
+#[derive(Clone, Copy, Debug)]
+pub struct RowPlace {
+    pub limits: Limits,
+    pub lot: u32,
+    pub bidder: u32,
+    ghost there: { HasRow limits lot bidder },
+}
+
 // How many words a house with these limits asks for, or none where they are out of range.
 pub fn words_needed(limits: Limits) -> Option<usize>
     ensures { result ≡ needed limits }
 {
-    if limits.are_good() {
-        Some(limits.words())
-    } else {
-        None
-    }
+    limits.layout().map(Layout::words)
 }
 
 // Where a lot's words begin.
@@ -56,35 +70,15 @@ pub fn lot_at(lot: u32) -> usize
 }
 
 impl Limits {
-    pub fn are_good(self) -> bool
-        ensures { result ≡ good self }
+    // The layout, if the limits are in range.
+    pub fn layout(self) -> Option<Layout>
+        ensures { MatchOption result (good self ≡ false) (λ l. (good self ≡ true) × (l.limits ≡ self)) }
     {
-        self.lots <= 4096 && self.bidders >= 1 && self.bidders <= 32 && self.each <= 16
-    }
-
-    // How many words the house has.
-    pub fn words(self) -> usize
-        requires { Good self }
-        ensures { result ≡ house_words self }
-    {
-        self.tables_at() + TABLE * self.bidders as usize + TABLES
-    }
-
-    // Where the tables begin: behind the last row.
-    pub fn tables_at(self) -> usize
-        requires { Good self }
-        ensures { result ≡ tables_at self }
-    {
-        self.rows_at() + BID * (self.lots as usize * self.bidders as usize * self.each as usize)
-    }
-
-    // Where the row of a bidder's bids on a lot begins.
-    pub fn row_at(self, lot: u32, bidder: u32) -> usize
-        requires { HasRow self lot bidder }
-        ensures { result ≡ row_at self lot bidder }
-    {
-        self.rows_at()
-            + BID * ((lot as usize * self.bidders as usize + bidder as usize) * self.each as usize)
+        if self.lots <= 4096 && (1..=32).contains(&self.bidders) && self.each <= 16 {
+            Some(Layout { limits: self })
+        } else {
+            None
+        }
     }
 
     // How many words a row has.
@@ -99,5 +93,40 @@ impl Limits {
         ensures { result ≡ lot_at self.lots }
     {
         lot_at(self.lots)
+    }
+}
+
+impl Layout {
+    // How many words the house has.
+    pub fn words(self) -> usize
+        ensures { result ≡ house_words self.limits }
+    {
+        self.tables_at() + TABLE * self.limits.bidders as usize + TABLES
+    }
+
+    // Where the tables begin: behind the last row.
+    pub fn tables_at(self) -> usize
+        ensures { result ≡ tables_at self.limits }
+    {
+        let Limits {
+            lots,
+            bidders,
+            each,
+        } = self.limits;
+        self.limits.rows_at() + BID * (lots as usize * bidders as usize * each as usize)
+    }
+}
+
+impl RowPlace {
+    // Where the row's words are: behind them the next row begins, or the tables.
+    pub fn words(self) -> Range<usize>
+        ensures start { result.start ≡ row_at self.limits self.lot self.bidder }
+        ensures end { result.end ≡ row_at self.limits self.lot self.bidder + row_size self.limits }
+        ensures within { result.end ≤ tables_at self.limits }
+    {
+        let Limits { bidders, each, .. } = self.limits;
+        let start = self.limits.rows_at()
+            + BID * ((self.lot as usize * bidders as usize + self.bidder as usize) * each as usize);
+        start..start + self.limits.row_size()
     }
 }

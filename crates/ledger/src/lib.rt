@@ -2,11 +2,11 @@
 #![tactic(auto)]
 
 pub use finding::{Closing, closed_by_now, find_lot, find_place, next_closing};
-pub use layout::{Limits, words_needed};
+pub use layout::{Layout, Limits, RowPlace, words_needed};
 pub use lots::{Lot, add_lot, lot_of};
 pub use opening::{Trouble, open};
-pub use rows::{bids_of, replace_bids};
-pub use standing::{Header, set_now, stands};
+pub use rows::{bids_of, read_row, replace_bids};
+pub use standing::{Header, TICKS, set_now, stands};
 
 pub mod finding;
 pub mod laws;

@@ -6,7 +6,7 @@ ghost use Rattle.ledger.specs.Layout.{lot_at};
 use crate::layout::{COUNT, lot_at};
 
 // So many pieces, and open until a tick.
-#[derive(Clone, Copy, PartialEq, Eq)]
+#[derive(Clone, Copy, Debug, PartialEq, Eq)]
 pub struct Lot {
     pub pieces: u32,
     pub until: u32,

@@ -1,12 +1,11 @@
 // A house is opened in lent memory.
-ghost use Rattle.std.specs.Prelude.{◌≡◌, ◌≤◌, length};
-ghost use Rattle.ledger.specs.Layout.{Good, house_words};
-ghost use Rattle.ledger.specs.Opening.{after_opening, opened, opening};
+ghost use Rattle.std.specs.Prelude.{◌≡◌};
+ghost use Rattle.ledger.specs.Opening.{after_opening, opening};
 
 use crate::layout::{BIDDERS, EACH, LOTS, Limits, words_needed};
 
 // Why no house is opened.
-#[derive(Clone, Copy, PartialEq, Eq)]
+#[derive(Clone, Copy, Debug, PartialEq, Eq)]
 pub enum Trouble {
     // limits out of range
     BadLimits,
@@ -19,23 +18,13 @@ pub fn open(limits: Limits, memory: &mut [u32]) -> Result<(), Trouble>
     ensures answer { result ≡ opening limits memory.old }
     ensures words { memory.new ≡ after_opening limits memory.old }
 {
-    let Some(words) = words_needed(limits) else {
-        return Err(Trouble::BadLimits);
-    };
+    let words = words_needed(limits).ok_or(Trouble::BadLimits)?;
     if memory.len() < words {
         return Err(Trouble::ShortMemory);
     }
-    start(limits, memory);
-    Ok(())
-}
-
-fn start(limits: Limits, memory: &mut [u32])
-    requires { (Good limits) × (house_words limits ≤ length memory.old) }
-    ensures { memory.new ≡ opened limits memory.old }
-{
-    let words = limits.words();
-    memory[0..words].fill(0);
+    memory[..words].fill(0);
     memory[LOTS] = limits.lots;
     memory[BIDDERS] = limits.bidders;
     memory[EACH] = limits.each;
+    Ok(())
 }

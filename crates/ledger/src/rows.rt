@@ -1,58 +1,51 @@
 // A bidder's row of bids on a lot, as a part of the lent memory: read by value, and written at once in place of the one before.
-ghost use Rattle.std.specs.Prelude.{◌≡◌, ◌+◌, ◌*◌, ◌<◌, ◌≤◌, length, slice_index, slice_set};
+ghost use Rattle.std.specs.Prelude.{◌≡◌, ◌+◌, ◌*◌, ◌<◌, ◌≤◌, length, slice_set};
 ghost use Rattle.bundles.specs.Masks.{mask_of};
 ghost use Rattle.bundles.specs.Offers.{all_meant, meant};
 ghost use Rattle.bundles.specs.Rows.{held};
-ghost use Rattle.ledger.specs.Layout.{HasRow, house_words};
-ghost use Rattle.ledger.specs.Words.{bid_of, bids_at, bids_in, row_over, row_words, with_row};
+ghost use Rattle.ledger.specs.Layout.{house_words};
+ghost use Rattle.ledger.specs.Words.{bid_of, bids_at, bids_in, row_words, with_row};
 
-use crate::layout::Limits;
+use crate::layout::RowPlace;
 use bundles::{Bid, Bundle, Row};
 
 // The bids of a bidder on a lot.
-pub fn bids_of(memory: &[u32], limits: Limits, lot: u32, bidder: u32) -> Row
-    requires { (HasRow limits lot bidder) × (house_words limits ≤ length memory.now) }
-    ensures { all_meant (held result) ≡ bids_at limits memory.now lot bidder }
+pub fn bids_of(memory: &[u32], place: RowPlace) -> Row
+    requires { house_words place.limits ≤ length memory.now }
+    ensures { all_meant (held result) ≡ bids_at place.limits memory.now place.lot place.bidder }
 {
-    let from = limits.row_at(lot, bidder);
-    let to = from + limits.row_size();
-    read_row(&memory[from..to])
+    read_row(&memory[place.words()])
 }
 
 // Puts these bids in the place of all that the bidder had on the lot.
-pub fn replace_bids(memory: &mut [u32], limits: Limits, lot: u32, bidder: u32, bids: &[Bid])
-    requires { (HasRow limits lot bidder) × ((house_words limits ≤ length memory.old) × (length bids.now ≤ limits.each)) }
-    ensures { memory.new ≡ with_row limits memory.old lot bidder (all_meant bids.now) }
+#[tactic(auto, using(crate::proofs::RowWords::put_row))]
+pub fn replace_bids(memory: &mut [u32], place: RowPlace, bids: &[Bid])
+    requires { (house_words place.limits ≤ length memory.old) × (length bids.now ≤ place.limits.each) }
+    ensures { memory.new ≡ with_row place.limits memory.old place.lot place.bidder (all_meant bids.now) }
 {
-    let from = limits.row_at(lot, bidder);
-    write_part(memory, from, limits.row_size(), bids);
-}
-
-// Makes these the bids of so many words from a place on.
-fn write_part(memory: &mut [u32], from: usize, size: usize, bids: &[Bid])
-    requires { (from + size ≤ length memory.old) × (2 * length bids.now ≤ size) }
-    ensures { memory.new ≡ row_over memory.old from size (all_meant bids.now) }
-{
-    let to = from + size;
-    write_row(&mut memory[from..to], bids);
+    write_row(&mut memory[place.words()], bids);
 }
 
 // The bids that a row of words holds, up to the first price of 0.
-fn read_row(words: &[u32]) -> Row
+#[tactic(auto, using(crate::proofs::RowWords::read_all))]
+pub fn read_row(words: &[u32]) -> Row
     requires { length words.now ≤ 32 }
     ensures { all_meant (held result) ≡ bids_in words.now }
 {
     let mut row = Row::new();
-    for i in 0..words.len() / 2 {
-        if words[2 * i] == 0 {
-            return row;
+    let (pairs, _) = words.as_chunks::<2>();
+    for &[price, set] in pairs {
+        if price == 0 {
+            break;
         }
-        row.push(bid_at(words, 2 * i));
+        row.push(bid_in(price, set));
     }
     row
 }
 
-// Makes these the bids of a row of words, and clears the words behind the last.
+// Makes these the bids of a row of words, and clears the words behind the last. Each pair goes by its place: tried with
+// chunks_exact_mut, of which a proof knows no element once the pieces are given back.
+#[tactic(auto, using(crate::proofs::RowWords::write_more), unfolding(crate::specs::Words::bid_words, crate::specs::Words::row_words))]
 fn write_row(words: &mut [u32], bids: &[Bid])
     requires { 2 * length bids.now ≤ length words.old }
     ensures { words.new ≡ row_words (length words.old) (all_meant bids.now) }
@@ -60,23 +53,22 @@ fn write_row(words: &mut [u32], bids: &[Bid])
     for (i, bid) in bids.iter().enumerate() {
         put_bid(words, 2 * i, *bid);
     }
-    let end = 2 * bids.len();
-    let len = words.len();
-    words[end..len].fill(0);
+    words[2 * bids.len()..].fill(0);
 }
 
-fn bid_at(words: &[u32], at: usize) -> Bid
-    requires { at + 1 < length words.now }
-    ensures { meant result ≡ bid_of (slice_index words.now at) (slice_index words.now (at + 1)) }
+fn bid_in(price: u32, set: u32) -> Bid
+    ensures { meant result ≡ bid_of price set }
 {
     Bid {
         on: Bundle {
-            mask: (words[at + 1] % 65536) as u16,
+            // A cast may lose no bits, so those above the sixteenth are cut off first.
+            mask: (set % 65536) as u16,
         },
-        price: words[at],
+        price,
     }
 }
 
+#[tactic(auto, using(bundles::proofs::Sets::mask_bits))]
 fn put_bid(words: &mut [u32], at: usize, bid: Bid)
     requires { at + 1 < length words.old }
     ensures { words.new ≡ slice_set (slice_set words.old at bid.price) (at + 1) (mask_of (meant bid).on) }

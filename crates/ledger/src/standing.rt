@@ -4,10 +4,10 @@ ghost use Rattle.ledger.specs.Houses.{Stands, fits, header_in, is_house, with_no
 
 use crate::layout::{BIDDERS, COUNT, EACH, FEWEST, LOTS, Limits, NOW, words_needed};
 
-// Ticks are below this.
-const TICKS: u32 = 16777216;
+// Every tick is below this.
+pub const TICKS: u32 = 16_777_216;
 
-#[derive(Clone, Copy)]
+#[derive(Clone, Copy, Debug, PartialEq, Eq)]
 pub struct Header {
     pub limits: Limits,
     pub now: u32,
@@ -16,6 +16,7 @@ pub struct Header {
 }
 
 // The header, if the memory is a house, and none for any other words.
+#[tactic(auto, using(crate::proofs::Houses::standing, crate::proofs::Houses::too_short), unfolding(crate::specs::Houses::is_house))]
 pub fn stands(memory: &[u32]) -> Option<Header>
     ensures { MatchOption result (is_house memory.now ≡ false) (λ h. Stands memory.now h) }
 {
@@ -23,11 +24,7 @@ pub fn stands(memory: &[u32]) -> Option<Header>
         return None;
     }
     let header = read_header(memory);
-    if header.fits(memory.len()) {
-        Some(header)
-    } else {
-        None
-    }
+    header.fits(memory.len()).then_some(header)
 }
 
 pub fn set_now(memory: &mut [u32], tick: u32)
@@ -57,9 +54,8 @@ impl Header {
     fn fits(self, words: usize) -> bool
         ensures { result ≡ fits self words }
     {
-        let Some(needed) = words_needed(self.limits) else {
-            return false;
-        };
-        needed <= words && self.count <= self.limits.lots && self.now < TICKS
+        words_needed(self.limits).is_some_and(|needed| needed <= words)
+            && self.count <= self.limits.lots
+            && self.now < TICKS
     }
 }

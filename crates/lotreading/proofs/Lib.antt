@@ -1,4 +1,2 @@
-pub mod Places
 pub mod Several
-pub mod Shorter
 pub mod Steps

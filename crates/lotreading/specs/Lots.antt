@@ -45,7 +45,7 @@ several one more (suc k) bs =
 
 -- `or`, with blanks around it
 abbrev pub or_at : Bool → List ℕ → Find Bool
-or_at may bs = pick (at 111 bs) (pick may (and_then (expecting OrOrEnd (spelt (codes "or") (tt {0}) bs)) (λ _ left. and_then (expecting SetBehindOr (gap left)) (λ _ from. found true from))) (missed SixteenBids bs)) (found false bs)
+or_at may bs = pick (at 111 bs) (pick may (and_then (expecting OrOrEnd (spelt (codes "or") bs)) (λ _ left. and_then (expecting SetBehindOr (gap left)) (λ _ from. found true from))) (missed SixteenBids bs)) (found false bs)
 
 abbrev pub other_bid : Bool → List ℕ → Find Bool
 other_bid may bs = pick (blank_here bs) (or_at may (behind_blanks bs)) (found false bs)
@@ -55,7 +55,7 @@ abbrev pub bids : ℕ → List ℕ → Find Bids
 bids n bs = several (bid n) (λ may _. other_bid may) 16 bs
 
 abbrev pub bidder : ℕ → List ℕ → Find Bids
-bidder n bs = pick (at 110 bs) (and_then (expecting Bidder (spelt (codes "nothing") (tt {0}) bs)) (λ _ left. found [] left)) (pick (set_here bs) (bids n bs) (missed Bidder bs))
+bidder n bs = pick (at 110 bs) (and_then (expecting Bidder (spelt (codes "nothing") bs)) (λ _ left. found [] left)) (pick (set_here bs) (bids n bs) (missed Bidder bs))
 
 -- what may follow a bidder: no `or` behind `nothing`
 abbrev pub behind_bidder : Bids → Expected

@@ -1,6 +1,6 @@
 // What a text of a lot should have had at the place where it can't be read on.
 
-#[derive(Clone, Copy)]
+#[derive(Clone, Copy, Debug, PartialEq, Eq)]
 pub enum Expected {
     // how many pieces the lot has, 1 to 16
     Pieces,

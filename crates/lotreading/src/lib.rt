@@ -1,21 +1,25 @@
 // Lots read from text.
 #![tactic(auto)]
 
-ghost use Rattle.std.specs.Prelude.{◌≡◌, ◌-◌, min, length, take};
+ghost use Rattle.std.specs.Prelude.{◌≡◌, ◌≤◌, ◌==◌, not, length, reverse, take};
+ghost use Rattle.std.specs.List.{take_while};
 ghost use Rattle.lotreading.specs.Lots.{lot_in};
 ghost use Rattle.lotreading.specs.Places.{column_behind, line_behind};
 ghost use Rattle.lotreading.specs.Values.{read_as};
 
-pub use bidders::Bidders;
+use bundles::{Row, UpTo};
 pub use expected::Expected;
 use lots::lot;
 use reading::Reader;
 
-mod bidders;
 mod bids;
 mod expected;
 mod lots;
 mod parts;
+mod pieces;
+
+// What each bidder bids, in their order.
+pub type Bidders = UpTo<Row, 32>;
 
 // How many pieces a lot has, and what each bidder bids.
 #[derive(Clone, Copy)]
@@ -25,7 +29,7 @@ pub struct Lot {
 }
 
 // How many bytes of a text fit, and what was expected behind them.
-#[derive(Clone, Copy)]
+#[derive(Clone, Copy, Debug, PartialEq, Eq)]
 pub struct Misread {
     pub place: usize,
     pub expected: Expected,
@@ -35,14 +39,10 @@ pub struct Misread {
 pub fn read_lot(text: &[u8]) -> Result<Lot, Misread>
     ensures { read_as result ≡ lot_in text.now }
 {
-    let mut reader = Reader { rest: text };
-    match lot(&mut reader) {
-        Ok(lot) => Ok(lot),
-        Err(expected) => {
-            let place = text.len() - reader.rest.len();
-            Err(Misread { place, expected })
-        }
-    }
+    let mut reader = Reader::new(text);
+    let lot = lot(&mut reader);
+    let place = reader.place_in(text);
+    lot.map_err(|expected| Misread { place, expected })
 }
 
 // The line and the column of a place in a text, both from 1 on.
@@ -50,29 +50,19 @@ pub fn line_and_column(text: &[u8], place: usize) -> (usize, usize)
     ensures line { result.0 ≡ line_behind (take place text.now) }
     ensures column { result.1 ≡ column_behind (take place text.now) }
 {
-    nothing_is_behind_the_end(text, place);
-    counted(&text[0..place.min(text.len())])
+    let before = &text[..place.min(text.len())];
+    let line = before.iter().filter(|byte| **byte == b'\n').count() + 1;
+    (line, behind_last_feed(before) + 1)
 }
 
-// This computes nothing: a call brings the law of its contract to the caller's proof.
-fn nothing_is_behind_the_end(text: &[u8], place: usize)
-    ensures { take (min place (length text.now) - 0) text.now ≡ take place text.now }
-{}
-
-// The line and the column of what follows these bytes.
-fn counted(before: &[u8]) -> (usize, usize)
-    ensures line { result.0 ≡ line_behind before.now }
-    ensures column { result.1 ≡ column_behind before.now }
+// How many of these bytes stand behind the last line feed among them.
+fn behind_last_feed(before: &[u8]) -> usize
+    ensures count { result ≡ length (take_while (λ b. not (b == 10)) (reverse before.now)) }
+    ensures bound { result ≤ length before.now }
 {
-    let mut line = 1;
-    let mut column = 1;
-    for byte in before {
-        if *byte == b'\n' {
-            line += 1;
-            column = 1;
-        } else {
-            column += 1;
-        }
-    }
-    (line, column)
+    before
+        .iter()
+        .rev()
+        .take_while(|byte| **byte != b'\n')
+        .count()
 }

@@ -1,56 +1,53 @@
 // A whole lot: its pieces, a colon, and the bidders, parted by `;`.
-ghost use Rattle.std.specs.Prelude.{◌≡◌, ◌≤◌, true, IfOk};
+ghost use Rattle.std.specs.Prelude.{◌≡◌};
 ghost use Rattle.bundles.specs.Offers.{all_meant};
 ghost use Rattle.bundles.specs.Rows.{all_held, held};
-ghost use Rattle.reading.specs.Readers.{ahead};
 ghost use Rattle.lotreading.specs.Lots.{behind_bidder, front as front_in, lot as lot_in, other_bidder, bidders as bidders_in};
 ghost use Rattle.lotreading.specs.Readers.{finds, finds_as};
-ghost use Rattle.lotreading.specs.Values.{lot_of, rows_of};
+ghost use Rattle.lotreading.specs.Values.{lot_of};
 
-use crate::Lot;
-use crate::bidders::Bidders;
 use crate::bids::bidder;
 use crate::expected::Expected;
 use crate::parts::{blanks, ranged};
-use bundles::Row;
+use crate::pieces::Pieces;
+use crate::{Bidders, Lot};
+use bundles::{MOST_PIECES, Row};
 use reading::Reader;
 
 pub fn lot(reader: &mut Reader<'_>) -> Result<Lot, Expected>
-    ensures { finds_as lot_of result reader.new ≡ lot_in (ahead reader.old) }
+    ensures { finds_as lot_of result reader.new ≡ lot_in reader.old }
 {
     let pieces = front(reader)?;
     let bidders = bidders(reader, pieces)?;
-    Ok(Lot { pieces, bidders })
+    Ok(Lot {
+        pieces: pieces.count(),
+        bidders,
+    })
 }
 
 // How many pieces, and a colon.
-fn front(reader: &mut Reader<'_>) -> Result<u32, Expected>
-    ensures found { finds result reader.new ≡ front_in (ahead reader.old) }
-    ensures few { IfOk result (λ n. n ≤ 16) }
+fn front(reader: &mut Reader<'_>) -> Result<Pieces, Expected>
+    ensures { finds result reader.new ≡ front_in reader.old }
 {
     blanks(reader);
-    let Ok(pieces) = ranged(reader, 1, 16) else {
-        return Err(Expected::Pieces);
-    };
+    let pieces = ranged(reader, 1..=MOST_PIECES).map_err(|_| Expected::Pieces)?;
     blanks(reader);
-    let Ok(()) = reader.byte(b':') else {
-        return Err(Expected::Colon);
-    };
+    reader.byte(b':').map_err(|_| Expected::Colon)?;
     blanks(reader);
-    Ok(pieces)
+    Ok(Pieces::new(pieces))
 }
 
-// One bidder or more, to the end.
-fn bidders(reader: &mut Reader<'_>, pieces: u32) -> Result<Bidders, Expected>
-    requires { pieces ≤ 16 }
-    ensures { finds_as (λ b. all_held (rows_of b)) result reader.new ≡ bidders_in pieces (ahead reader.old) }
+// One bidder or more, to the end. This loop and that over bids differ in what they read, ask for and keep, and a trait for
+// these would be longer than a loop.
+#[tactic(auto, using(crate::proofs::Several::several_steps))]
+fn bidders(reader: &mut Reader<'_>, pieces: Pieces) -> Result<Bidders, Expected>
+    ensures { finds_as (λ b. all_held (held b)) result reader.new ≡ bidders_in pieces reader.old }
 {
     let mut bidders = Bidders::new();
     loop {
         let row = bidder(reader, pieces)?;
         bidders.push(row);
-        let may = bidders.rows().len() < 32;
-        if !another(reader, may, row)? {
+        if !another(reader, !bidders.is_full(), row)? {
             return Ok(bidders);
         }
     }
@@ -58,8 +55,7 @@ fn bidders(reader: &mut Reader<'_>, pieces: u32) -> Result<Bidders, Expected>
 
 // Goes over `;` and the blanks around it, if another bidder follows, which it may or may not; else the text ends.
 fn another(reader: &mut Reader<'_>, may: bool, row: Row) -> Result<bool, Expected>
-    ensures told { finds result reader.new ≡ other_bidder may (all_meant (held row)) (ahead reader.old) }
-    ensures room { IfOk result (λ t. t ≡ true → may ≡ true) }
+    ensures { finds result reader.new ≡ other_bidder may (all_meant (held row)) reader.old }
 {
     blanks(reader);
     let Some(byte) = reader.peek() else {
@@ -80,9 +76,8 @@ fn another(reader: &mut Reader<'_>, may: bool, row: Row) -> Result<bool, Expecte
 fn behind(row: Row) -> Expected
     ensures { result ≡ behind_bidder (all_meant (held row)) }
 {
-    if row.bids().is_empty() {
-        Expected::End
-    } else {
-        Expected::OrOrEnd
+    match row.as_slice() {
+        [] => Expected::End,
+        _ => Expected::OrOrEnd,
     }
 }

@@ -1,9 +1,11 @@
 // The parts of a text of several lines: blanks and remarks, and numbers of a range.
 ghost use Rattle.std.specs.Prelude.{◌≡◌, false, ◌||◌};
-ghost use Rattle.reading.specs.Readers.{ahead, seen};
+ghost use Rattle.reading.specs.Readers.{seen};
+ghost use Rattle.std.specs.Range.{range_inclusive_start, range_inclusive_end, range_inclusive_exhausted};
 ghost use Rattle.lotreading.specs.Parts.{behind_blanks, blank, blank_here, gap as gap_in, ranged, remark as remark_of};
 
 use reading::{Reader, Unreadable};
+use std::ops::RangeInclusive;
 
 // Is the byte to be passed over, in a remark or as a blank?
 fn is_passed(remark: bool, byte: u8) -> bool
@@ -20,8 +22,9 @@ fn is_remark(before: bool, byte: u8) -> bool
 }
 
 // Goes over blanks and remarks.
+#[tactic(auto, using(crate::proofs::Steps::skip_next))]
 pub fn blanks(reader: &mut Reader<'_>)
-    ensures { ahead reader.new ≡ behind_blanks (ahead reader.old) }
+    ensures { reader.new ≡ behind_blanks reader.old }
 {
     let mut remark = false;
     while let Some(byte) = reader.peek() {
@@ -34,17 +37,16 @@ pub fn blanks(reader: &mut Reader<'_>)
 }
 
 pub fn at_blank(reader: &Reader<'_>) -> bool
-    ensures { result ≡ blank_here (ahead reader.now) }
+    ensures { result ≡ blank_here reader.now }
 {
-    match reader.peek() {
-        Some(byte) => is_passed(is_remark(false, byte), byte),
-        None => false,
-    }
+    reader
+        .peek()
+        .is_some_and(|byte| is_passed(is_remark(false, byte), byte))
 }
 
 // One blank or more.
 pub fn gap(reader: &mut Reader<'_>) -> Result<(), Unreadable>
-    ensures { seen result reader.new ≡ gap_in (ahead reader.old) }
+    ensures { seen result reader.new ≡ gap_in reader.old }
 {
     if !at_blank(reader) {
         return Err(Unreadable);
@@ -54,15 +56,15 @@ pub fn gap(reader: &mut Reader<'_>) -> Result<(), Unreadable>
 }
 
 // A number of a range; where there is none, the reader stays.
-pub fn ranged(reader: &mut Reader<'_>, least: u32, most: u32) -> Result<u32, Unreadable>
-    ensures { seen result reader.new ≡ ranged least most (ahead reader.old) }
+pub fn ranged(reader: &mut Reader<'_>, range: RangeInclusive<u32>) -> Result<u32, Unreadable>
+    requires { range_inclusive_exhausted range ≡ false }
+    ensures { seen result reader.new ≡ ranged (range_inclusive_start range) (range_inclusive_end range) reader.old }
 {
-    let start = reader.rest;
-    match reader.number() {
-        Ok(n) if n >= least && n <= most => Ok(n),
-        _ => {
-            reader.rest = start;
-            Err(Unreadable)
-        }
+    let mut further = Reader::new(reader.rest());
+    let number = further.number()?;
+    if !range.contains(&number) {
+        return Err(Unreadable);
     }
+    *reader = further;
+    Ok(number)
 }

@@ -21,12 +21,12 @@ impl fmt::Display for Line {
     fn fmt<W: fmt::Write>(&self, f: &mut fmt::Formatter<W>) -> fmt::Result {
         match self.0 {
             Answer::Refused { refusal, place } => {
-                let number = refusal.number();
+                let number = u64::from(refusal);
                 write!(f, "0 {number} {place}")
             }
             Answer::Number(n) => write!(f, "1 {n}"),
             Answer::Two(a, b) => write!(f, "2 {a} {b}"),
-            Answer::Bids(row) => write_bids(f, row.bids()),
+            Answer::Bids(row) => write_bids(f, row.as_slice()),
         }
     }
 }

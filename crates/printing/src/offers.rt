@@ -29,24 +29,10 @@ fn write_piece<W: fmt::Write>(f: &mut fmt::Formatter<W>, set: Bundle, piece: u32
     requires { piece < 16 }
     ensures { WritesOnOk W.Write.write_str_gives f.old result (pick (slice_index_or (bits 16 set.mask) piece false) (digit piece ∷ []) []) f.new }
 {
-    if set.has(piece) {
-        f.write_char(digit_of(piece))
-    } else {
-        f.write_str("")
+    match char::from_digit(piece, 16) {
+        Some(digit) if set.has(piece) => f.write_char(digit),
+        _ => Ok(()),
     }
-}
-
-fn digit_of(piece: u32) -> char
-    requires { piece < 16 }
-    ensures value { result ≡ digit piece }
-    ensures ascii { result < 128 }
-{
-    let code = if piece < 10 {
-        48 + piece as u8
-    } else {
-        87 + piece as u8
-    };
-    code as char
 }
 
 // A bid, shown as its set and its price.

@@ -2,10 +2,7 @@
 use std::io;
 
 pub fn word<'a>(words: &'a [String], at: usize) -> &'a str {
-    match words.get(at) {
-        Some(text) => text.as_str(),
-        None => "",
-    }
+    words.get(at).map_or("", |word| word.as_str())
 }
 
 // An error of reading or writing is told on standard error, and ends the program with status 1.
@@ -15,11 +12,8 @@ pub fn told(
     name: &str,
     done: io::Result<()>,
 ) -> anyhow::Result<()> {
-    match done {
-        Ok(()) => Ok(()),
-        Err(e) => {
-            eprintln!(rt; "{program}: {name}: {e}")?;
-            Err(e.into())
-        }
+    if let Err(e) = &done {
+        eprintln!(rt; "{program}: {name}: {e}")?;
     }
+    Ok(done?)
 }

@@ -1,3 +1,3 @@
+pub mod Kept
 pub mod Listing
-pub mod Shorter
 pub mod Steps

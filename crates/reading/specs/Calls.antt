@@ -1,12 +1,11 @@
 -- What a line means: which call it is, or the place of the first byte that does not fit. Assumes nothing: these are definitions.
-use Rattle.std.specs.Prelude.{ℕ, ◌-◌, Bool, true, false, List, [], length, drop, Some, None, codes, Option, nat_eq}
+use Rattle.std.specs.Prelude.{ℕ, ◌-◌, Bool, List, length, drop, Some, None, codes, Option, nat_eq}
 use Rattle.auction.specs.Bids.{Bids, pick}
 use Rattle.auction.specs.House.{Call, opens, bids, ticks, my_bids, result, brings, lot_is, garbled}
 use Rattle.reading.specs.Lines.{bid_list, byte, end, field, given, skip, spelt, starts}
 use Rattle.reading.specs.Reads.{Read, got, stuck, then}
-use Rattle.reading.specs.declared.calls.Front.{Front}
-use Rattle.reading.specs.declared.kinds.Kind.{Kind}
-use Rattle.reading.specs.declared.kinds.Kind.TheVariants.{Open, Bid, Ticks, MyBids, Result, Brings, Lot}
+use Rattle.wire.specs.declared.kind.Kind.{Kind}
+use Rattle.wire.specs.declared.kind.Kind.TheVariants.{Open, Bid, Ticks, MyBids, Result, Brings, Lot}
 
 -- the words that a call begins with
 abbrev pub words : Kind → List ℕ
@@ -33,47 +32,31 @@ likely bs =
     (pick (at 108 bs) (Some Lot) None)))))
 
 abbrev pub kind : List ℕ → Read Kind
-kind bs = given (likely bs) (stuck bs) (λ k. spelt (words k) k bs)
+kind bs = given (likely bs) (stuck bs) (λ k. then (spelt (words k) bs) (λ _ left. got k left))
 
--- has it one number only?
-abbrev pub single : Kind → Bool
-single Open = false
-single Bid = false
-single Ticks = true
-single MyBids = false
-single Result = false
-single Brings = true
-single Lot = true
+-- the one number of a call, or its two
+abbrev pub one : (ℕ → Call) → List ℕ → Read Call
+one made bs = then (field bs) (λ n left. got (made n) left)
 
--- the second number of a call, where it has two
-abbrev pub second : Kind → List ℕ → Read ℕ
-second k bs = pick (single k) (got 0 bs) (field bs)
+abbrev pub two : (ℕ → ℕ → Call) → List ℕ → Read Call
+two made bs = then (field bs) (λ a left. then (field left) (λ b rest. got (made a b) rest))
 
--- a call's words and its numbers
-abbrev pub front : List ℕ → Read Front
-front bs = then (kind (skip bs)) (λ k left. then (field left) (λ a more. then (second k more) (λ b rest. got (record { kind = k; first = a; second = b }) rest)))
+-- a colon, and the bids of a call
+abbrev pub bids_behind : List ℕ → Read Bids
+bids_behind bs = then (byte 58 (skip bs)) (λ _ left. bid_list left)
 
--- what follows them: the bids of a bid call, and nothing behind any other
-abbrev pub behind : Kind → List ℕ → Read Bids
-behind Open bs = got [] bs
-behind Bid bs = then (byte 58 (skip bs)) (λ _ left. bid_list left)
-behind Ticks bs = got [] bs
-behind MyBids bs = got [] bs
-behind Result bs = got [] bs
-behind Brings bs = got [] bs
-behind Lot bs = got [] bs
-
-abbrev pub made : Kind → ℕ → ℕ → Bids → Call
-made Open n t bs = opens n t
-made Bid k b bs = bids k b bs
-made Ticks n b bs = ticks n
-made MyBids k b bs = my_bids k b
-made Result k b bs = result k b
-made Brings k b bs = brings k
-made Lot k b bs = lot_is k
+-- what a kind of call has behind its words
+abbrev pub behind : Kind → List ℕ → Read Call
+behind Open bs = two opens bs
+behind Bid bs = then (field bs) (λ k left. then (field left) (λ b rest. then (bids_behind rest) (λ all end. got (bids k b all) end)))
+behind Ticks bs = one ticks bs
+behind MyBids bs = two my_bids bs
+behind Result bs = two result bs
+behind Brings bs = one brings bs
+behind Lot bs = one lot_is bs
 
 abbrev pub call : List ℕ → Read Call
-call bs = then (front bs) (λ f left. then (behind f.kind left) (λ all rest. then (end rest) (λ _ none. got (made f.kind f.first f.second all) none)))
+call bs = then (kind (skip bs)) (λ k left. then (behind k left) (λ c rest. then (end rest) (λ _ none. got c none)))
 
 -- the call, or how much of the line fits
 abbrev pub placed : List ℕ → Read Call → Call

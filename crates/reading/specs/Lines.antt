@@ -34,10 +34,10 @@ gap bs = pick (starts blank bs) (got tt (skip bs)) (stuck bs)
 abbrev pub byte : ℕ → List ℕ → Read (Unit {0})
 byte w bs = pick (w == 32) (gap bs) (pick (starts (λ b. nat_eq b w) bs) (got tt (drop 1 bs)) (stuck bs))
 
--- just these bytes, which stand for x
-unfoldable pub spelt : {X : Type 0} → List ℕ → X → List ℕ → Read X
-spelt [] x bs = got x bs
-spelt (w ∷ ws) x bs = then (byte w bs) (λ _ left. spelt ws x left)
+-- just these bytes
+unfoldable pub spelt : List ℕ → List ℕ → Read (Unit {0})
+spelt [] bs = got tt bs
+spelt (w ∷ ws) bs = then (byte w bs) (λ _ left. spelt ws left)
 
 -- nothing but blanks
 abbrev pub end : List ℕ → Read (Unit {0})

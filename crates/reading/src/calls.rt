@@ -1,127 +1,102 @@
 // Calls read from a line: the words and numbers that a call begins with, and what follows them.
-ghost use Rattle.std.specs.Prelude.{◌≡◌, ◌*◌, ◌≤◌, IfOk};
-ghost use Rattle.reading.specs.Calls.{behind, call, front, kind as kind_in, likely, made, second as second_in};
-ghost use Rattle.reading.specs.Readers.{ahead, listed, seen, seen_as};
+ghost use Rattle.std.specs.Prelude.{◌≡◌};
+ghost use Rattle.reading.specs.Calls.{behind, bids_behind, call, kind as kind_in, likely, words};
+ghost use Rattle.reading.specs.Readers.{seen, seen_as};
 ghost use Rattle.wire.specs.Meaning.{asked};
 ghost use Rattle.wire.specs.Offers.{offers};
 
-use crate::kinds::Kind;
+use crate::buffer::BidBuffer;
 use crate::reader::{Reader, Unreadable};
-use wire::{Bids, Call};
-
-// What a call begins with; the second number is 0 where it has one only.
-#[derive(Clone, Copy)]
-pub struct Front {
-    kind: Kind,
-    first: u32,
-    second: u32,
-}
-
-impl Front {
-    fn call<'b>(self, bids: Bids<'b>) -> Call<'b>
-        ensures { asked result ≡ made self.kind self.first self.second (offers bids.entry) }
-    {
-        let Front {
-            kind,
-            first,
-            second,
-        } = self;
-        match kind {
-            Kind::Open => Call::Open {
-                pieces: first,
-                until: second,
-            },
-            Kind::Bid => Call::Bid {
-                lot: first,
-                bidder: second,
-                bids,
-            },
-            Kind::Ticks => Call::Ticks { ticks: first },
-            Kind::MyBids => Call::MyBids {
-                lot: first,
-                bidder: second,
-            },
-            Kind::Result => Call::Result {
-                lot: first,
-                bidder: second,
-            },
-            Kind::Brings => Call::Brings { lot: first },
-            Kind::Lot => Call::Lot { lot: first },
-        }
-    }
-}
+use wire::{Bids, Call, Kind};
 
 impl<'a> Reader<'a> {
-    // A whole line. The lent bytes take the bids of a call.
-    pub fn call<'b>(&mut self, bids: &'b mut [u8; 1530]) -> Result<Call<'b>, Unreadable>
-        ensures { seen_as asked result self.new ≡ call (ahead self.old) }
-    {
-        let front = self.front()?;
-        let count = self.behind(front.kind, bids)?;
-        self.end()?;
-        Ok(front.call(Bids {
-            bytes: &bids[0..6 * count],
-        }))
-    }
-
-    fn front(&mut self) -> Result<Front, Unreadable>
-        ensures { seen result self.new ≡ front (ahead self.old) }
+    // A whole line. The lent buffer takes the bids of a call.
+    pub fn call<'b>(&mut self, bids: &'b mut BidBuffer) -> Result<Call<'b>, Unreadable>
+        ensures { seen_as asked result self.new ≡ call self.old }
     {
         self.blanks();
         let kind = self.kind()?;
-        let first = self.field()?;
-        let second = self.second(kind)?;
-        Ok(Front {
-            kind,
-            first,
-            second,
-        })
+        let call = self.behind(kind, bids)?;
+        self.end()?;
+        Ok(call)
     }
 
     fn kind(&mut self) -> Result<Kind, Unreadable>
-        ensures { seen result self.new ≡ kind_in (ahead self.old) }
+        ensures { seen result self.new ≡ kind_in self.old }
     {
-        match self.likely() {
-            Some(kind) => self.spelt(kind.words(), kind),
-            None => Err(Unreadable),
-        }
+        let kind = self.likely().ok_or(Unreadable)?;
+        self.spelt(words(kind))?;
+        Ok(kind)
     }
 
     // The only kind of call that a line can be which goes on so.
     fn likely(&self) -> Option<Kind>
-        ensures { result ≡ likely (ahead self.now) }
+        ensures { result ≡ likely self.now }
     {
-        match self.peek() {
-            Some(b'o') => Some(Kind::Open),
-            Some(b'b') if self.rest.len() > 1 && self.rest[1] == b'r' => Some(Kind::Brings),
-            Some(b'b') => Some(Kind::Bid),
-            Some(b't') => Some(Kind::Ticks),
-            Some(b'm') => Some(Kind::MyBids),
-            Some(b'r') => Some(Kind::Result),
-            Some(b'l') => Some(Kind::Lot),
+        match self.rest() {
+            [b'o', ..] => Some(Kind::Open),
+            [b'b', b'r', ..] => Some(Kind::Brings),
+            [b'b', ..] => Some(Kind::Bid),
+            [b't', ..] => Some(Kind::Ticks),
+            [b'm', ..] => Some(Kind::MyBids),
+            [b'r', ..] => Some(Kind::Result),
+            [b'l', ..] => Some(Kind::Lot),
             _ => None,
         }
     }
 
-    fn second(&mut self, kind: Kind) -> Result<u32, Unreadable>
-        ensures { seen result self.new ≡ second_in kind (ahead self.old) }
+    // What a kind of call has behind its words.
+    fn behind<'b>(&mut self, kind: Kind, bids: &'b mut BidBuffer) -> Result<Call<'b>, Unreadable>
+        ensures { seen_as asked result self.new ≡ behind kind self.old }
     {
-        if kind.is_single() {
-            return Ok(0);
-        }
-        self.field()
+        Ok(match kind {
+            Kind::Open => Call::Open {
+                pieces: self.field()?,
+                until: self.field()?,
+            },
+            Kind::Bid => Call::Bid {
+                lot: self.field()?,
+                bidder: self.field()?,
+                bids: self.bids_behind(bids)?,
+            },
+            Kind::Ticks => Call::Ticks {
+                ticks: self.field()?,
+            },
+            Kind::MyBids => Call::MyBids {
+                lot: self.field()?,
+                bidder: self.field()?,
+            },
+            Kind::Result => Call::Result {
+                lot: self.field()?,
+                bidder: self.field()?,
+            },
+            Kind::Brings => Call::Brings { lot: self.field()? },
+            Kind::Lot => Call::Lot { lot: self.field()? },
+        })
     }
 
-    // The bids of a bid call, and nothing behind any other.
-    fn behind(&mut self, kind: Kind, bids: &mut [u8; 1530]) -> Result<usize, Unreadable>
-        ensures bids { listed result bids.new self.new ≡ behind kind (ahead self.old) }
-        ensures bound { IfOk result (λ n. n ≤ 255) }
+    // A colon, and the bids of a call.
+    fn bids_behind<'b>(&mut self, bids: &'b mut BidBuffer) -> Result<Bids<'b>, Unreadable>
+        ensures { seen_as offers result self.new ≡ bids_behind self.old }
     {
-        let Kind::Bid = kind else {
-            return Ok(0);
-        };
         self.blanks();
         self.byte(b':')?;
-        self.bid_list(bids)
+        self.bid_list(bids)?;
+        Ok(bids.bids())
+    }
+}
+
+// The words that a call begins with.
+fn words(kind: Kind) -> &'static [u8]
+    ensures { result.now ≡ words kind }
+{
+    match kind {
+        Kind::Open => b"open",
+        Kind::Bid => b"bid",
+        Kind::Ticks => b"ticks",
+        Kind::MyBids => b"my bids",
+        Kind::Result => b"result",
+        Kind::Brings => b"brings",
+        Kind::Lot => b"lot",
     }
 }

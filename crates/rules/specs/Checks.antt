@@ -5,9 +5,10 @@ use Rattle.auction.specs.House.{Call, opens, bids, ticks, my_bids, lot_is, refus
 use Rattle.bundles.specs.Offers.{all_meant}
 use Rattle.bundles.specs.Rows.{held}
 use Rattle.keeper.specs.Keeping.{next_in, place_in, says_in, turned_in}
-use Rattle.ledger.specs.Houses.{Stands, limits_in, with_lot, with_now}
-use Rattle.ledger.specs.Layout.{HasRow, house_words, lot_at, now_at}
+use Rattle.ledger.specs.Houses.{Stands, header_in, limits_in, with_lot, with_now}
+use Rattle.ledger.specs.Layout.{house_words, lot_at, now_at}
 use Rattle.ledger.specs.Words.{bids_at, with_row}
+use Rattle.ledger.specs.declared.layout.RowPlace.{RowPlace}
 use Rattle.ledger.specs.declared.lots.Lot.{Lot}
 use Rattle.ledger.specs.declared.standing.Header.{Header}
 use Rattle.wire.specs.Refusals.{refusal_number}
@@ -34,13 +35,14 @@ pub record Opens (m : List ℕ) (pieces until : ℕ) (h : Header) : Type 0 where
 -- a bidder's bids on a lot can be replaced by these, which are the row's
 pub record Takes (m : List ℕ) (k b : ℕ) (bs : Bids) (t : Taking) : Type 0 where
   pub taken : turned_in m (bids k b bs) ≡ 0
-  pub limits : t.limits ≡ limits_in m
-  pub place : HasRow t.limits k b
-  pub room : house_words t.limits ≤ length m
+  pub limits : t.place.limits ≡ limits_in m
+  pub lot : t.place.lot ≡ k
+  pub bidder : t.place.bidder ≡ b
+  pub room : house_words t.place.limits ≤ length m
   pub made : all_meant (held t.row) ≡ bs
-  pub few : length (held t.row) ≤ t.limits.each
+  pub few : length (held t.row) ≤ t.place.limits.each
   pub said : says_in m (bids k b bs) ≡ number (length bs)
-  pub after : next_in m (bids k b bs) ≡ with_row t.limits m k b bs
+  pub after : next_in m (bids k b bs) ≡ with_row t.place.limits m k b bs
 
 -- so many ticks can go by, and then it is this late
 pub record Ticks (m : List ℕ) (n : ℕ) (t : ℕ) : Type 0 where
@@ -50,13 +52,15 @@ pub record Ticks (m : List ℕ) (n : ℕ) (t : ℕ) : Type 0 where
   pub said : says_in m (ticks n) ≡ number t
   pub after : next_in m (ticks n) ≡ with_now m t
 
--- a bidder's bids on a lot can be shown, in a house with this header
-pub record Shows (m : List ℕ) (k b : ℕ) (h : Header) : Type 0 where
+-- a bidder's bids on a lot can be shown, and have this place
+pub record Shows (m : List ℕ) (k b : ℕ) (place : RowPlace) : Type 0 where
   pub taken : turned_in m (my_bids k b) ≡ 0
-  pub stands : Stands m h
-  pub place : HasRow h.limits k b
-  pub room : house_words h.limits ≤ length m
-  pub said : says_in m (my_bids k b) ≡ list (bids_at h.limits m k b)
+  pub stands : Stands m (header_in m)
+  pub limits : place.limits ≡ limits_in m
+  pub lot : place.lot ≡ k
+  pub bidder : place.bidder ≡ b
+  pub room : house_words place.limits ≤ length m
+  pub said : says_in m (my_bids k b) ≡ list (bids_at place.limits m k b)
   pub after : next_in m (my_bids k b) ≡ m
 
 -- a lot can be told of, and this is it

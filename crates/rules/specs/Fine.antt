@@ -3,8 +3,7 @@ use Rattle.std.specs.Prelude.{◌≡◌, ℕ, Bool, ◌&&◌, length, nat_le}
 use Rattle.auction.specs.Bids.{Bid, Bids}
 use Rattle.auction.specs.House.{any, prices_fine}
 use Rattle.bundles.specs.Offers.{all_meant}
-use Rattle.bundles.specs.Rows.{held}
-use Rattle.bundles.specs.declared.row.Row.{Row}
+use Rattle.bundles.specs.Rows.{Row, held}
 
 -- its price is in range, and its set is not empty
 abbrev pub fine : Bid → Bool

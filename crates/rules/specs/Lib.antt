@@ -1,2 +1,3 @@
 pub mod Checks
 pub mod Fine
+pub mod Places

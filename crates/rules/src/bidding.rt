@@ -5,15 +5,15 @@ ghost use Rattle.std.specs.Result.{MatchResult};
 ghost use Rattle.wire.specs.Offers.{offers};
 
 use crate::fine::{all_fit, row_of};
-use crate::turned::{NO_HOUSE, NO_SUCH_LOT, NOT_IN_LOT, OUT_OF_RANGE, Turned, WRONG_TIME};
+use crate::turned::Turned;
 use bundles::Row;
-use ledger::{Limits, lot_of, stands};
-use wire::Bids;
+use ledger::{RowPlace, lot_of, stands};
+use wire::{Bids, Refusal};
 
-// The bids that are taken, and the limits that say where they belong.
+// The bids that are taken, and where they belong.
 #[derive(Clone, Copy)]
 pub struct Taking {
-    pub limits: Limits,
+    pub place: RowPlace,
     pub row: Row,
 }
 
@@ -21,27 +21,27 @@ pub struct Taking {
 pub fn may_bid(memory: &[u32], lot: u32, bidder: u32, bids: Bids<'_>) -> Result<Taking, Turned>
     ensures { MatchResult result (λ t. Takes memory.now lot bidder (offers bids.entry) t) (λ t. Refuses memory.now (bids_on lot bidder (offers bids.entry)) t) }
 {
-    let Some(header) = stands(memory) else {
-        return Err(NO_HOUSE);
-    };
+    let header = stands(memory).ok_or(Refusal::NoHouse)?;
     if bidder >= header.limits.bidders {
-        return Err(OUT_OF_RANGE);
+        return Err(Refusal::OutOfRange.into());
     }
-    let Some(row) = row_of(bids, header.limits.each) else {
-        return Err(OUT_OF_RANGE);
-    };
+    let row = row_of(bids, header.limits.each).ok_or(Refusal::OutOfRange)?;
     if lot >= header.count {
-        return Err(NO_SUCH_LOT);
+        return Err(Refusal::NoSuchLot.into());
     }
     let asked = lot_of(memory, lot);
     if header.now >= asked.until {
-        return Err(WRONG_TIME);
+        return Err(Refusal::WrongTime.into());
     }
-    if !all_fit(row.bids(), asked.pieces) {
-        return Err(NOT_IN_LOT);
+    if !all_fit(row.as_slice(), asked.pieces) {
+        return Err(Refusal::NotInLot.into());
     }
     Ok(Taking {
-        limits: header.limits,
+        place: RowPlace {
+            limits: header.limits,
+            lot,
+            bidder,
+        },
         row,
     })
 }

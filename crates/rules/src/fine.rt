@@ -7,8 +7,7 @@ ghost use Rattle.bundles.specs.Rows.{held};
 ghost use Rattle.rules.specs.Fine.{Holds, all_fine, fine};
 ghost use Rattle.wire.specs.Offers.{offers};
 
-use crate::bounds::HIGHEST_PRICE;
-use bundles::{Bid, Row};
+use bundles::{Bid, HIGHEST_PRICE, Row};
 use wire::Bids;
 
 // The bids as a row, if there are no more than so many, which are sixteen at most, and each is in range.
@@ -26,27 +25,21 @@ pub fn row_of(bids: Bids<'_>, most: u32) -> Option<Row>
 pub fn all_fit(bids: &[Bid], pieces: u32) -> bool
     ensures { result ≡ all_in (all_meant bids.now) pieces }
 {
-    for bid in bids {
-        if !fits(*bid, pieces) {
-            return false;
-        }
-    }
-    true
+    bids.iter().all(|&bid| fits(bid, pieces))
 }
 
 // The bids as a row, if each is in range.
+#[tactic(auto, unfolding(auction::specs::House::prices_fine))]
 fn decoded(bids: Bids<'_>) -> Option<Row>
     requires { length (offers bids) ≤ 16 }
     ensures { MatchOption result (prices_fine (offers bids.entry) ≡ false) (λ row. (prices_fine (offers bids.entry) ≡ true) × Holds row (offers bids.entry)) }
 {
     let mut row = Row::new();
-    let mut i = 0;
-    while let Some(bid) = bids.get(i) {
+    for bid in bids.iter() {
         if !is_fine(bid) {
             return None;
         }
         row.push(bid);
-        i += 1;
     }
     Some(row)
 }
@@ -55,10 +48,7 @@ fn decoded(bids: Bids<'_>) -> Option<Row>
 fn is_fine(bid: Bid) -> bool
     ensures { result ≡ fine (meant bid) }
 {
-    if bid.price < 1 || bid.price > HIGHEST_PRICE {
-        return false;
-    }
-    !bid.on.is_empty()
+    (1..=HIGHEST_PRICE).contains(&bid.price) && !bid.on.is_empty()
 }
 
 fn fits(bid: Bid, pieces: u32) -> bool

@@ -10,7 +10,6 @@ pub use turned::Turned;
 pub use unable::{not_yet, unreadable};
 
 pub mod bidding;
-mod bounds;
 mod fine;
 pub mod opening;
 pub mod showing;

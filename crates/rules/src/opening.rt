@@ -3,28 +3,24 @@ ghost use Rattle.auction.specs.House.{opens};
 ghost use Rattle.rules.specs.Checks.{Opens, Refuses};
 ghost use Rattle.std.specs.Result.{MatchResult};
 
-use crate::bounds::{MOST_PIECES, TICKS};
-use crate::turned::{ABOVE_LIMITS, NO_HOUSE, NOT_LATER, OUT_OF_RANGE, Turned};
-use ledger::{Header, stands};
+use crate::turned::Turned;
+use bundles::MOST_PIECES;
+use ledger::{Header, TICKS, stands};
+use wire::Refusal;
 
 // The header, whose count is where the lot goes.
 pub fn may_open(memory: &[u32], pieces: u32, until: u32) -> Result<Header, Turned>
     ensures { MatchResult result (λ h. Opens memory.now pieces until h) (λ t. Refuses memory.now (opens pieces until) t) }
 {
-    let Some(header) = stands(memory) else {
-        return Err(NO_HOUSE);
-    };
-    if pieces < 1 || pieces > MOST_PIECES {
-        return Err(OUT_OF_RANGE);
-    }
-    if until >= TICKS {
-        return Err(OUT_OF_RANGE);
+    let header = stands(memory).ok_or(Refusal::NoHouse)?;
+    if !(1..=MOST_PIECES).contains(&pieces) || until >= TICKS {
+        return Err(Refusal::OutOfRange.into());
     }
     if until <= header.now {
-        return Err(NOT_LATER);
+        return Err(Refusal::NotLater.into());
     }
     if header.count >= header.limits.lots {
-        return Err(ABOVE_LIMITS);
+        return Err(Refusal::AboveLimits.into());
     }
     Ok(header)
 }

@@ -1,46 +1,39 @@
 // A call that is turned away: why, and at which place of it.
+ghost use Rattle.std.specs.Prelude.{◌≡◌};
+ghost use Rattle.auction.specs.House.{refused};
+ghost use Rattle.wire.specs.Meaning.{said};
+ghost use Rattle.wire.specs.Refusals.{refusal_number};
+ghost use Rattle.rules.specs.Places.{refusal_place};
 
-use wire::Refusal;
+use wire::{Answer, Refusal};
 
-#[derive(Clone, Copy)]
+#[derive(Clone, Copy, Debug, PartialEq, Eq)]
 pub struct Turned {
     pub refusal: Refusal,
     pub place: u64,
 }
 
-// Where the memory is no house, every call is turned away so.
-pub const NO_HOUSE: Turned = Turned {
-    refusal: Refusal::NoHouse,
-    place: 0,
-};
+// Each refusal stands at the place that the list of refusals gives it. That of bytes that are no call is found as they are read.
+impl From<Refusal> for Turned {
+    ghost from_gives = { λ refusal turned. (turned.refusal ≡ refusal) × (turned.place ≡ refusal_place refusal) };
 
-// The others, each at the place that the list of refusals gives it.
-pub const OUT_OF_RANGE: Turned = Turned {
-    refusal: Refusal::OutOfRange,
-    place: 0,
-};
+    fn from(refusal: Refusal) -> Turned {
+        let place = match refusal {
+            Refusal::NotInLot => 2,
+            Refusal::NotLater => 1,
+            _ => 0,
+        };
+        Turned { refusal, place }
+    }
+}
 
-pub const NO_SUCH_LOT: Turned = Turned {
-    refusal: Refusal::NoSuchLot,
-    place: 0,
-};
+impl From<Turned> for Answer {
+    ghost from_gives = { λ turned answer. said answer ≡ refused (refusal_number turned.refusal) turned.place };
 
-pub const WRONG_TIME: Turned = Turned {
-    refusal: Refusal::WrongTime,
-    place: 0,
-};
-
-pub const NOT_IN_LOT: Turned = Turned {
-    refusal: Refusal::NotInLot,
-    place: 2,
-};
-
-pub const NOT_LATER: Turned = Turned {
-    refusal: Refusal::NotLater,
-    place: 1,
-};
-
-pub const ABOVE_LIMITS: Turned = Turned {
-    refusal: Refusal::AboveLimits,
-    place: 0,
-};
+    fn from(turned: Turned) -> Answer {
+        Answer::Refused {
+            refusal: turned.refusal,
+            place: turned.place,
+        }
+    }
+}

@@ -3,7 +3,7 @@ ghost use Rattle.std.specs.Prelude.{ℕ};
 ghost use Rattle.auction.specs.House.{brings, garbled, result as result_for};
 ghost use Rattle.rules.specs.Checks.{Refuses};
 
-use crate::turned::{NO_HOUSE, OUT_OF_RANGE, Turned};
+use crate::turned::Turned;
 use ledger::stands;
 use wire::Refusal;
 
@@ -16,7 +16,7 @@ pub fn unreadable(memory: &[u32], place: usize) -> Turned
             refusal: Refusal::Unreadable,
             place: place as u64,
         },
-        None => NO_HOUSE,
+        None => Refusal::NoHouse.into(),
     }
 }
 
@@ -26,7 +26,7 @@ pub fn not_yet(memory: &[u32]) -> Turned
     ensures brings { (k : ℕ) → Refuses memory.now (brings k) result }
 {
     match stands(memory) {
-        Some(_) => OUT_OF_RANGE,
-        None => NO_HOUSE,
+        Some(_) => Refusal::OutOfRange.into(),
+        None => Refusal::NoHouse.into(),
     }
 }

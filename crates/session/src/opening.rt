@@ -14,16 +14,16 @@ pub fn open(limits: Limits, memory: &mut [u32]) -> Result<(), Answer>
     ensures words { memory.new ≡ after_opening limits memory.old }
     ensures cases { MatchResult result (λ u. opening limits memory.old ≡ Ok u) (λ a. elim (opening limits memory.old) [ Ok u ↦ ⊥ | Err e ↦ elim e [ BadLimits ↦ said a ≡ refused 3 1 | ShortMemory ↦ said a ≡ refused 3 0 ] ]) }
 {
-    match ledger::open(limits, memory) {
-        Ok(()) => Ok(()),
-        Err(Trouble::BadLimits) => Err(no_house(1)),
-        Err(Trouble::ShortMemory) => Err(no_house(0)),
-    }
+    ledger::open(limits, memory).map_err(no_house)
 }
 
-fn no_house(place: u64) -> Answer
-    ensures { said result ≡ refused 3 place }
+fn no_house(trouble: Trouble) -> Answer
+    ensures { said result ≡ refused 3 (elim trouble [ BadLimits ↦ 1 | ShortMemory ↦ 0 ]) }
 {
+    let place = match trouble {
+        Trouble::BadLimits => 1,
+        Trouble::ShortMemory => 0,
+    };
     Answer::Refused {
         refusal: Refusal::NoHouse,
         place,

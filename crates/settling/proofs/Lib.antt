@@ -8,3 +8,4 @@ pub mod Members
 pub mod Aparts
 pub mod Lones
 pub mod Turns
+mod Made

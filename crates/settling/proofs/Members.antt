@@ -1,6 +1,6 @@
 -- A group of bidders by itself: what its members get and pay among all bidders is what they get and pay on their own pieces, moved together. Assumes nothing.
-use Rattle.std.proofs.Common.{◌≡◌, ℕ, zero, suc, ◌/◌, ◌%◌, ◌^◌, ◌<◌, ◌≤◌, min, Bool, true, false, not, ◌&&◌, ◌||◌, eqb, ◌⊎◌, List, [], ◌∷◌, map, length, get_or, sym, refl, ap, ◌∙◌, subst, ap₂, inl, inr, pow-suc, arith, pow_mono}
-use lib.Bits.{bit_and, and_step, and_comm, and_self}
+use Rattle.std.proofs.Common.{◌≡◌, ℕ, zero, suc, ◌/◌, ◌%◌, ◌^◌, ◌<◌, ◌≤◌, min, Bool, true, false, not, ◌&&◌, ◌||◌, eqb, ◌⊎◌, List, [], ◌∷◌, map, length, get_or, sym, refl, ap, ◌∙◌, subst, ap₂, inl, inr, arith, pow_mono}
+use lib.Bits.{bit_and, and_step, and_comm}
 use Rattle.std.specs.List.{range_with_len}
 use Rattle.std.proofs.lemmas.List.FromFn.{get_or-map-range_with_len, length-range_with_len}
 use Rattle.std.proofs.lemmas.List.{ext_get_or, get_or-map, get_or_past, length-map}
@@ -12,21 +12,21 @@ use Rattle.auction.specs.Faster.{packed, packed_bid, all_packed, how_many, Packe
 use Rattle.auction.specs.Laws.{touches, pieces_of, only, shared, SameFor, SettledOnPieces}
 use Rattle.auction.proofs.Groups.{only_at, settled_on_pieces}
 use Rattle.auction.proofs.Packed.{packed_pieces, packed_shared}
-use Rattle.auction.proofs.Sets.{touches-within}
+use Rattle.auction.proofs.Sets.{touches-within, within_trans}
 use Rattle.bundles.specs.Masks.{bits, mask_of}
 use Rattle.bundles.specs.Offers.{meant, all_meant}
-use Rattle.bundles.specs.Rows.{held, all_held}
+use Rattle.bundles.specs.Rows.{Row, held, all_held}
 use Rattle.bundles.specs.declared.Bid.{Bid}
-use Rattle.bundles.specs.declared.row.Row.{Row}
+use Rattle.bundles.specs.declared.Bundle.{Bundle}
 use Rattle.bundles.proofs.Sets.{bits_mask, mask_below, within_more, length-bits}
 use Rattle.solver.proofs.Bidders.{as_many}
 use Rattle.solver.proofs.Supersets.{upper_held}
 use Rattle.solver.specs.Sharing.{Shared}
-use Rattle.solver.specs.declared.sharing.Shares.{Shares}
-use Rattle.settling.specs.Groups.{In, wants, AllWants, member, group_bids, GroupShares}
+use Rattle.solver.specs.declared.outcome.Share.{Share}
+use Rattle.settling.specs.Groups.{In, want, wants, AllWants, Closed, member, group_bids, GroupShares}
 use Rattle.settling.specs.Packs.{packed_mask, packed_bids, places_in}
-use Rattle.settling.proofs.Joining.{in_or, in_or_left, in_trans}
-use Rattle.settling.proofs.Keeping.{nothing}
+use Rattle.settling.proofs.Joining.{in_joined, in_joined_left, in_trans}
+use Rattle.solver.proofs.Goods.{nothing}
 use Rattle.settling.proofs.Packs.{head_many}
 
 -- numbers as sets of any many pieces
@@ -48,30 +48,38 @@ apart_touches (suc k) m w e = head (m % 2) (w % 2) (omega (arith, and_step m w))
     head : (x y : ℕ) {t : Bool} → min x y ≡ 0 → t ≡ false → ((eqb x 1 && eqb y 1) || t) ≡ false
     head x y z e = grind (arith, nat_tests)
 
-pub below_power : (n : ℕ) → n < 2 ^ n
-below_power zero = omega arith
-below_power (suc n) = omega (arith, below_power n, pow-suc 2 n)
-
 -- each bid is within what its bidder wants
-pub bid_in : (bs : List Bid) (a : ℕ) → a < length bs → In (get_or bs a nothing).on.mask (wants bs)
+bid_in : (bs : List Bid) (a : ℕ) → a < length bs → In (get_or bs a nothing).on.mask (wants bs)
 unfolding wants
 bid_in [] a lt = absurd (omega arith)
-bid_in (b ∷ bs) zero lt = in_or_left b.on.mask b.on.mask b.on.mask (wants bs) (below_power b.on.mask) (and_self b.on.mask)
-bid_in (b ∷ bs) (suc a) lt = in_or (get_or bs a nothing).on.mask (get_or bs a nothing).on.mask b.on.mask (wants bs) (below_power (get_or bs a nothing).on.mask) (bid_in bs a (omega arith))
+bid_in (b ∷ bs) zero lt = in_joined_left b.on.mask (wants bs)
+bid_in (b ∷ bs) (suc a) lt = in_trans (get_or bs a nothing).on.mask (wants bs) _ (bid_in bs a (omega arith)) (in_joined b.on.mask (wants bs))
 
 -- a bidder's bids, by its number
-pub held_at : (rows : List Row) (i : ℕ) → get_or (all_held rows) i [] ≡ all_meant (get_or (map held rows) i [])
+held_at : (rows : List Row) (i : ℕ) → get_or (all_held rows) i [] ≡ all_meant (get_or (map held rows) i [])
 held_at [] i = refl
 held_at (r ∷ rows) zero = refl
 held_at (r ∷ rows) (suc i) = held_at rows i
 
-pub pieces_at : (rows : List Row) (i a : ℕ) → a < length (get_or (map held rows) i []) → pieces_of (all_held rows) i a ≡ bits 16 (get_or (get_or (map held rows) i []) a nothing).on.mask
+pieces_at : (rows : List Row) (i a : ℕ) → a < length (get_or (map held rows) i []) → pieces_of (all_held rows) i a ≡ bits 16 (get_or (get_or (map held rows) i []) a nothing).on.mask
 pieces_at rows i a lt =
     ap {B = Some} (λ (bs : Bids). (get_or bs a no_bid).on) (held_at rows i) ∙ ap {B = Some} (λ (o : Offer). o.on) (get_or-map meant (get_or (map held rows) i []) a nothing no_bid lt)
 
-pub no_pieces : (rows : List Row) (i a : ℕ) → length (get_or (map held rows) i []) ≤ a → pieces_of (all_held rows) i a ≡ []
+no_pieces : (rows : List Row) (i a : ℕ) → length (get_or (map held rows) i []) ≤ a → pieces_of (all_held rows) i a ≡ []
 no_pieces rows i a le =
     ap {B = Some} (λ (bs : Bids). (get_or bs a no_bid).on) (held_at rows i) ∙ ap {B = Some} (λ (o : Offer). o.on) (get_or_past (all_meant (get_or (map held rows) i [])) a no_bid (omega (arith, length-map (get_or (map held rows) i []) meant)))
+
+-- a bidder's pieces are among what it wants
+pub pieces_within : (rows : List Row) (ws : List Bundle) (i a : ℕ) → AllWants rows ws → within (pieces_of (all_held rows) i a) (bits 16 (want ws i)) ≡ true
+unfolding within
+pieces_within rows ws i a aw = at (cases_lt a (length (get_or (map held rows) i [])))
+  where
+    at : (a < length (get_or (map held rows) i [])) ⊎ (length (get_or (map held rows) i []) ≤ a) → within (pieces_of (all_held rows) i a) (bits 16 (want ws i)) ≡ true
+    at (inl there) =
+        let P : ℕ → Type 0 = λ w. In (get_or (get_or (map held rows) i []) a nothing).on.mask w in
+        ap (λ (s : Some). within s (bits 16 (want ws i))) (pieces_at rows i a there)
+        ∙ in_within 16 (get_or (get_or (map held rows) i []) a nothing).on.mask (want ws i) (subst P (sym (aw.each i)) (bid_in (get_or (map held rows) i []) a there))
+    at (inr le) = ap (λ (s : Some). within s (bits 16 (want ws i))) (no_pieces rows i a le)
 
 -- packed sets have as many places as there are
 length_packed_is : (m s : Some) → length (packed m s) ≡ how_many m
@@ -120,52 +128,24 @@ length-only g [] = refl
 length-only g (bs ∷ bss) = ap suc (length-only (λ i. g (suc i)) bss)
 
 -- a group that is closed: what it wants and what the others want is apart
-module _ (rows : List Row) (ws : List ℕ) (m : ℕ) (aw : AllWants rows ws) (few : length rows ≤ 32) (closed : (j : ℕ) → j < 32 → (bit_and (get_or ws j 0) m ≡ 0) ⊎ In (get_or ws j 0) m) where
+module _ (rows : List Row) (ws : List Bundle) (m : ℕ) (aw : AllWants rows ws) (c : Closed ws m) where
   -- no bids behind the last bidder
   behind : (i : ℕ) → length rows ≤ i → get_or (map held rows) i [] ≡ []
   behind i le = get_or_past (map held rows) i [] (omega (arith, length-map rows held))
 
-  wanted : (i a : ℕ) → i < length rows → a < length (get_or (map held rows) i []) → In (get_or (get_or (map held rows) i []) a nothing).on.mask (get_or ws i 0)
-  wanted i a lt there = let P : ℕ → Type 0 = λ w. In (get_or (get_or (map held rows) i []) a nothing).on.mask w in subst P (sym (aw.each i lt)) (bid_in (get_or (map held rows) i []) a there)
-
   mine : (i a : ℕ) → member ws m i ≡ true → within (pieces_of (all_held rows) i a) (bits 16 m) ≡ true
-  unfolding within
-  mine i a g = at (cases_lt a (length (get_or (map held rows) i [])))
+  mine i a g = within_trans _ _ _ (pieces_within rows ws i a aw) (in_within 16 (want ws i) m (whole (c.each i)))
     where
-      inside : i < length rows → (bit_and (get_or ws i 0) m ≡ 0) ⊎ In (get_or ws i 0) m → a < length (get_or (map held rows) i []) → In (get_or (get_or (map held rows) i []) a nothing).on.mask m
-      inside lt (inl away) there = let z : ◌≡◌ {A = Bool} false true = sym (ap not (eq-eqb (bit_and (get_or ws i 0) m) 0 away)) ∙ g in let y : ◌≡◌ {A = ℕ} 0 1 = cc in absurd (omega arith)
-      inside lt (inr whole) there =
-          in_trans (get_or (get_or (map held rows) i []) a nothing).on.mask (get_or (get_or (map held rows) i []) a nothing).on.mask (get_or ws i 0) m (below_power (get_or (get_or (map held rows) i []) a nothing).on.mask) (wanted i a lt there) whole
-
-      at : (a < length (get_or (map held rows) i [])) ⊎ (length (get_or (map held rows) i []) ≤ a) → within (pieces_of (all_held rows) i a) (bits 16 m) ≡ true
-      at (inr le) = ap (λ (s : Some). within s (bits 16 m)) (no_pieces rows i a le)
-      at (inl there) = by_number (cases_lt i (length rows))
-        where
-          by_number : (i < length rows) ⊎ (length rows ≤ i) → within (pieces_of (all_held rows) i a) (bits 16 m) ≡ true
-          by_number (inl lt) =
-              ap (λ (s : Some). within s (bits 16 m)) (pieces_at rows i a there)
-              ∙ in_within 16 (get_or (get_or (map held rows) i []) a nothing).on.mask m (inside lt (closed i (omega arith)) there)
-          by_number (inr le) = absurd (omega (arith, ap length (behind i le)))
+      whole : (bit_and (want ws i) m ≡ 0) ⊎ In (want ws i) m → In (want ws i) m
+      whole (inl away) = let z : ◌≡◌ {A = Bool} false true = sym (ap not (eq-eqb (bit_and (want ws i) m) 0 away)) ∙ g in cc
+      whole (inr in-all) = in-all
 
   theirs : (i a : ℕ) → member ws m i ≡ false → touches (pieces_of (all_held rows) i a) (bits 16 m) ≡ false
-  unfolding touches
-  theirs i a g = at (cases_lt a (length (get_or (map held rows) i [])))
+  theirs i a g = touches-within _ _ _ (pieces_within rows ws i a aw) (apart_touches 16 m (want ws i) (and_comm m (want ws i) ∙ away (cases_eq (bit_and (want ws i) m) 0)))
     where
-      away : (bit_and (get_or ws i 0) m ≡ 0) ⊎ (bit_and (get_or ws i 0) m ≡ 0 → ⊥) → bit_and (get_or ws i 0) m ≡ 0
+      away : (bit_and (want ws i) m ≡ 0) ⊎ (bit_and (want ws i) m ≡ 0 → ⊥) → bit_and (want ws i) m ≡ 0
       away (inl e) = e
-      away (inr ne) = let z : ◌≡◌ {A = Bool} true false = sym (ap not (ne_eqb (bit_and (get_or ws i 0) m) 0 ne)) ∙ g in let y : ◌≡◌ {A = ℕ} 0 1 = cc in absurd (omega arith)
-
-      at : (a < length (get_or (map held rows) i [])) ⊎ (length (get_or (map held rows) i []) ≤ a) → touches (pieces_of (all_held rows) i a) (bits 16 m) ≡ false
-      at (inr le) = ap (λ (s : Some). touches s (bits 16 m)) (no_pieces rows i a le)
-      at (inl there) = by_number (cases_lt i (length rows))
-        where
-          by_number : (i < length rows) ⊎ (length rows ≤ i) → touches (pieces_of (all_held rows) i a) (bits 16 m) ≡ false
-          by_number (inl lt) =
-              ap (λ (s : Some). touches s (bits 16 m)) (pieces_at rows i a there)
-              ∙ touches-within (bits 16 (get_or (get_or (map held rows) i []) a nothing).on.mask) (bits 16 (get_or ws i 0)) (bits 16 m)
-              (in_within 16 (get_or (get_or (map held rows) i []) a nothing).on.mask (get_or ws i 0) (wanted i a lt there))
-              (apart_touches 16 m (get_or ws i 0) (and_comm m (get_or ws i 0) ∙ away (cases_eq (bit_and (get_or ws i 0) m) 0)))
-          by_number (inr le) = absurd (omega (arith, ap length (behind i le)))
+      away (inr ne) = let z : ◌≡◌ {A = Bool} true false = sym (ap not (ne_eqb (bit_and (want ws i) m) 0 ne)) ∙ g in cc
 
   -- the group's bids, by their bidder's number
   group_at : (i : ℕ) → get_or (group_bids ws m rows) i [] ≡ pick (member ws m i) (all_meant (packed_bids m (get_or (map held rows) i []))) []
@@ -257,13 +237,11 @@ module _ (rows : List Row) (ws : List ℕ) (m : ℕ) (aw : AllWants rows ws) (fe
     member-pays i g = group_pays i ∙ sym (apart i g).1
 
     -- so the group's shares are its members' among all
-    pub group_shared : (s : Shares) → Shared (group_bids ws m rows) (bits (places_in m) (packed_mask m whole)) s → GroupShares rows ws m (bits 16 whole) s
-    group_shared s z =
+    pub group_shared : (ss : List Share) → Shared (group_bids ws m rows) (bits (places_in m) (packed_mask m whole)) ss → GroupShares rows ws m (bits 16 whole) ss
+    group_shared ss z =
         record {
-          all_taken = z.taken.long;
-          all_paid = z.paid.long;
-          place = λ i lt g. (z.taken.each i (omega (arith, group_long))).place ∙ member-place i g;
-          paid = λ i lt g. z.paid.each i (omega (arith, group_long)) ∙ member-pays i g;
+          place = λ i lt g. (z.each i (omega (arith, group_long))).taken.place ∙ member-place i g;
+          paid = λ i lt g. (z.each i (omega (arith, group_long))).paid ∙ member-pays i g;
         }
 
 -- what there is of a group's pieces is a set of so many

@@ -1,19 +1,20 @@
 -- Pieces moved together, from the highest place on. Assumes nothing.
-use Rattle.std.proofs.Common.{◌≡◌, ℕ, ◌+◌, ◌-◌, ◌*◌, ◌<◌, ◌≤◌, Bool, true, false, cond, [], ◌∷◌, length, get_or, drop, sym, refl, ap, ◌∙◌, ap₂, add_comm, zero-add, arith, pow_mono}
+use Rattle.std.proofs.Common.{map, ◌^◌, ◌≡◌, ℕ, ◌+◌, ◌-◌, ◌*◌, ◌<◌, ◌≤◌, Bool, true, false, cond, [], ◌∷◌, length, get_or, drop, sym, refl, ap, ◌∙◌, ap₂, add_comm, zero-add, arith, pow_mono}
 use Rattle.std.proofs.lemmas.List.{drop_all, drop_more, length-drop}
-use Rattle.std.proofs.lemmas.List.Sums.{count_by-le-length, sum_by-cons}
+use mir.Val.{bool_byte}
+use lib.Lanes.{mask_l}
+use Rattle.std.specs.Prelude.{count_ones}
+use Rattle.std.proofs.lemmas.Simd.{ones-mask_l}
+use Rattle.std.proofs.lemmas.List.Sums.{sum_by-cons}
 use Rattle.auction.specs.Bids.{Some, pick}
 use Rattle.auction.specs.Faster.{packed, how_many}
 use Rattle.bundles.specs.Masks.{bits, mask_of}
 use Rattle.bundles.proofs.Picks.{pick_yes, pick_no}
-use Rattle.bundles.proofs.Sets.{length-bits, mask_below}
+use Rattle.bundles.proofs.Sets.{mask_bits, length-bits, mask_below}
 
--- what there is from a place on, as a number; and how many
+-- what there is from a place on, as a number
 abbrev pub packed_from : ℕ → ℕ → ℕ → ℕ
 packed_from places set p = mask_of (packed (drop p (bits 16 places)) (drop p (bits 16 set)))
-
-abbrev pub many_from : ℕ → ℕ → ℕ
-many_from places p = how_many (drop p (bits 16 places))
 
 length-packed : (m s : Some) → length (packed m s) ≤ length m
 unfolding packed
@@ -39,9 +40,6 @@ module _ (places set p : ℕ) (lt : p < 16) where
   pub packed_more : packed_from places set p ≡ pick (get_or (bits 16 places) p false) (2 * packed_from places set (p + 1) + pick (get_or (bits 16 set) p false) 1 0) (packed_from places set (p + 1))
   packed_more = ap₂ (λ (m s : Some). mask_of (packed m s)) (drop_bits places) (drop_bits set) ∙ head_packed _ _ _ _
 
-  pub many_more : many_from places p ≡ pick (get_or (bits 16 places) p false) (many_from places (p + 1) + 1) (many_from places (p + 1))
-  many_more = ap (λ (m : Some). how_many m) (drop_bits places) ∙ head_many (get_or (bits 16 places) p false) (drop (p + 1) (bits 16 places))
-
   pub packed_small : packed_from places set (p + 1) < 32768
   packed_small =
       let s : Some = packed (drop (p + 1) (bits 16 places)) (drop (p + 1) (bits 16 set)) in
@@ -52,19 +50,25 @@ pub packed_none : (places set : ℕ) → 0 ≡ packed_from places set 16
 unfolding packed mask_of
 packed_none places set = ap (λ (m : Some). mask_of (packed m (drop 16 (bits 16 set)))) (sym (drop_all 16 (bits 16 places) (omega (arith, length-bits 16 places))))
 
-pub many_none : (places : ℕ) → 0 ≡ many_from places 16
-many_none places = ap (λ (m : Some). how_many m) (sym (drop_all 16 (bits 16 places) (omega (arith, length-bits 16 places))))
+-- a bit as a number
+pub bit_is : (b : Bool) → bool_byte b ≡ pick b 1 0
+bit_is true = refl
+bit_is false = refl
+
+pub bit_small : (b : Bool) → bool_byte b ≤ 1
+bit_small true = omega arith
+bit_small false = omega arith
 
 -- a turn of the loop, at one place less: the place is there, or it is not
 module _ (places i : ℕ) (some : 0 < i) (few : i ≤ 16) where
   back : i - 1 + 1 ≡ i
   back = omega arith
 
-  pub packed_there : (set mask bit : ℕ) → mask ≡ packed_from places set i → true ≡ get_or (bits 16 places) (i - 1) false → bit ≡ pick (get_or (bits 16 set) (i - 1) false) 1 0 →
+  pub packed_there : (set mask bit : ℕ) → mask ≡ packed_from places set i → true ≡ get_or (bits 16 places) (i - 1) false → bit ≡ bool_byte (get_or (bits 16 set) (i - 1) false) →
       2 * mask + bit ≡ packed_from places set (i - 1)
-  packed_there set mask bit e there bit_is =
+  packed_there set mask bit e there is =
       sym (packed_more places set (i - 1) (omega arith) ∙ pick_yes _ _ (sym there)
-      ∙ ap₂ (λ (x y : ℕ). 2 * x + y) (ap (packed_from places set) back ∙ sym e) (sym bit_is))
+      ∙ ap₂ (λ (x y : ℕ). 2 * x + y) (ap (packed_from places set) back ∙ sym e) (sym (is ∙ bit_is _)))
 
   pub packed_gone : (set mask : ℕ) → mask ≡ packed_from places set i → false ≡ get_or (bits 16 places) (i - 1) false → mask ≡ packed_from places set (i - 1)
   packed_gone set mask e gone = sym (packed_more places set (i - 1) (omega arith) ∙ pick_no _ _ (sym gone) ∙ ap (packed_from places set) back ∙ sym e)
@@ -72,15 +76,12 @@ module _ (places i : ℕ) (some : 0 < i) (few : i ≤ 16) where
   pub mask_small : (set mask : ℕ) → mask ≡ packed_from places set i → mask < 32768
   mask_small set mask e = omega (arith, e, ap (packed_from places set) back, packed_small places set (i - 1) (omega arith))
 
-  pub many_there : (many : ℕ) → many ≡ many_from places i → true ≡ get_or (bits 16 places) (i - 1) false → many + 1 ≡ many_from places (i - 1)
-  many_there many e there = sym (many_more places 0 (i - 1) (omega arith) ∙ pick_yes _ _ (sym there) ∙ ap (λ (x : ℕ). x + 1) (ap (many_from places) back ∙ sym e))
+-- the ones of a mask are the pieces of its set
+mask_l-is : (s : Some) → mask_l (map (λ x. x) s) ≡ mask_of s
+unfolding mask_of
+mask_l-is [] = refl
+mask_l-is (true ∷ s) = ap (λ (n : ℕ). 1 + 2 * n) (mask_l-is s)
+mask_l-is (false ∷ s) = ap (λ (n : ℕ). 0 + 2 * n) (mask_l-is s)
 
-  pub many_gone : (many : ℕ) → many ≡ many_from places i → false ≡ get_or (bits 16 places) (i - 1) false → many ≡ many_from places (i - 1)
-  many_gone many e gone = sym (many_more places 0 (i - 1) (omega arith) ∙ pick_no _ _ (sym gone) ∙ ap (many_from places) back ∙ sym e)
-
-  pub many_small : (many : ℕ) → many ≡ many_from places i → many ≤ 16
-  many_small many e = omega (arith, e, count_by-le-length (λ (x : Bool). x) (drop i (bits 16 places)), length-drop i (bits 16 places), length-bits 16 places)
-
-pub bit_small : (b : Bool) → pick b 1 0 ≤ 1
-bit_small true = omega arith
-bit_small false = omega arith
+pub ones_are_pieces : (n m : ℕ) → m < 2 ^ n → count_ones m ≡ how_many (bits n m)
+ones_are_pieces n m h = ap count_ones (sym (mask_l-is (bits n m) ∙ mask_bits n m h)) ∙ ones-mask_l (λ (x : Bool). x) (bits n m)

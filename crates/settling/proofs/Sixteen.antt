@@ -8,13 +8,13 @@ use Rattle.auction.proofs.Kept.{covers_itself}
 use Rattle.auction.proofs.Packed.{packed_pieces}
 use Rattle.bundles.specs.Masks.{bits}
 use Rattle.bundles.specs.Offers.{all_meant}
-use Rattle.bundles.specs.Rows.{held, all_held}
+use Rattle.bundles.specs.Rows.{Row, held, all_held}
 use Rattle.bundles.specs.declared.Bid.{Bid}
-use Rattle.bundles.specs.declared.row.Row.{Row}
 use Rattle.bundles.proofs.Sets.{length-bits}
-use Rattle.solver.specs.Choosing.{IsTaken, nothing_taken}
+use Rattle.solver.specs.Choosing.{IsTaken}
+use Rattle.solver.specs.Paying.{nothing_taken}
 use Rattle.solver.specs.Sharing.{AllKept, Shared}
-use Rattle.solver.specs.declared.sharing.Shares.{Shares}
+use Rattle.solver.specs.declared.outcome.Share.{Share}
 
 -- all bids may be kept
 pub all_kept_same : (bss : List Bids) → AllKept bss bss
@@ -66,31 +66,28 @@ held-within [] i a = refl
 held-within (r ∷ rows) zero a = bid-within (held r) a
 held-within (r ∷ rows) (suc i) a = held-within rows i a
 
-module _ (rows : List Row) (n : ℕ) (many : 16 ≤ n) where
-  same_choice : choice (all_held rows) (all 16) ≡ choice (all_held rows) (all n)
-  unfolding PackedPieces
-  same_choice = ap₂ choice (sym (rows_same rows)) (sym (packed-front 16 n many)) ∙ (packed_pieces (all 16) (all_held rows) (all n) (held-within rows)).1
+-- what a lot has of the sixteen pieces is all that counts
+pub shared_by_sixteen : (rows : List Row) (n : ℕ) (free : Some) (ss : List Share) → packed (all 16) (all n) ≡ free → Shared (all_held rows) free ss → Shared (all_held rows) (all n) ss
+unfolding PackedPieces
+shared_by_sixteen rows n free ss e z =
+    let bss : List Bids = all_held rows in
+    let sixteen = packed_pieces (all 16) bss (all n) (held-within rows) in
+    let chosen : choice bss free ≡ choice bss (all n) = ap₂ choice (sym (rows_same rows)) (sym e) ∙ sixteen.1 in
+    let paid : (i : ℕ) → pays bss free i ≡ pays bss (all n) i = λ i. ap₂ (λ (css : List Bids) (f : Some). pays css f i) (sym (rows_same rows)) (sym e) ∙ sixteen.2 i in
+    record {
+      long = z.long;
+      each = λ i lt.
+          let A : List ℕ → Type 0 = λ cs. IsTaken (get_or bss i []) (get_or cs i 0) (get_or ss i nothing_taken).taken in
+          record { taken = subst A chosen (z.each i lt).taken; paid = (z.each i lt).paid ∙ paid i };
+      none = z.none;
+    }
 
-  same_pays : (i : ℕ) → pays (all_held rows) (all 16) i ≡ pays (all_held rows) (all n) i
-  unfolding PackedPieces
-  same_pays i =
-      ap₂ (λ (css : List Bids) (free : Some). pays css free i) (sym (rows_same rows)) (sym (packed-front 16 n many)) ∙ (packed_pieces (all 16) (all_held rows) (all n) (held-within rows)).2 i
-
-  shared_beyond : (s : Shares) → Shared (all_held rows) (all 16) s → Shared (all_held rows) (all n) s
-  shared_beyond s z =
-      let bss : List Bids = all_held rows in
-      let A : List ℕ → Type 0 = λ cs. (i : ℕ) → i < length bss → IsTaken (get_or bss i []) (get_or cs i 0) (get_or s.taken i nothing_taken) in
-      record {
-        taken = record { long = z.taken.long; each = subst A same_choice z.taken.each; none = z.taken.none };
-        paid = record { long = z.paid.long; each = λ i lt. z.paid.each i lt ∙ same_pays i; none = z.paid.none };
-      }
-
-pub shared-any : (rows : List Row) (n k : ℕ) (s : Shares) → k ≡ min n 16 → Shared (all_held rows) (all k) s → Shared (all_held rows) (all n) s
-shared-any rows n k s e z = go (cases_lt n 16)
+pub shared-any : (rows : List Row) (n k : ℕ) (ss : List Share) → k ≡ min n 16 → Shared (all_held rows) (all k) ss → Shared (all_held rows) (all n) ss
+shared-any rows n k ss e z = go (cases_lt n 16)
   where
-    go : (n < 16) ⊎ (16 ≤ n) → Shared (all_held rows) (all n) s
-    go (inl few) = let P : ℕ → Type 0 = λ j. Shared (all_held rows) (all j) s in let same : k ≡ n = omega arith in subst P same z
-    go (inr many) = let P : ℕ → Type 0 = λ j. Shared (all_held rows) (all j) s in let same : k ≡ 16 = omega arith in shared_beyond rows n many s (subst P same z)
+    go : (n < 16) ⊎ (16 ≤ n) → Shared (all_held rows) (all n) ss
+    go (inl few) = let Q : ℕ → Type 0 = λ j. Shared (all_held rows) (all j) ss in let same : k ≡ n = omega arith in subst Q same z
+    go (inr many) = let Q : ℕ → Type 0 = λ j. Shared (all_held rows) (all j) ss in let same : k ≡ 16 = omega arith in shared_by_sixteen rows n (all 16) ss (packed-front 16 n many) (subst Q same z)
 
 -- a lot's pieces as a set of sixteen
 min_none : (j : ℕ) → min 0 j ≡ 0
@@ -112,21 +109,5 @@ packed_all_is (suc j) (suc n) w e =
     pow_suc' : (k : ℕ) → 2 ^ suc k ≡ 2 * 2 ^ k
     pow_suc' k = omega (arith, pow-suc 2 k)
 
-module _ (rows : List Row) (n w : ℕ) (e : w + 1 ≡ 2 ^ min n 16) where
-  lot-choice : choice (all_held rows) (bits 16 w) ≡ choice (all_held rows) (all n)
-  unfolding PackedPieces
-  lot-choice = ap₂ choice (sym (rows_same rows)) (sym (packed_all_is 16 n w e)) ∙ (packed_pieces (all 16) (all_held rows) (all n) (held-within rows)).1
-
-  lot-pays : (i : ℕ) → pays (all_held rows) (bits 16 w) i ≡ pays (all_held rows) (all n) i
-  unfolding PackedPieces
-  lot-pays i =
-      ap₂ (λ (css : List Bids) (free : Some). pays css free i) (sym (rows_same rows)) (sym (packed_all_is 16 n w e)) ∙ (packed_pieces (all 16) (all_held rows) (all n) (held-within rows)).2 i
-
-  pub shared-lot : (s : Shares) → Shared (all_held rows) (bits 16 w) s → Shared (all_held rows) (all n) s
-  shared-lot s z =
-      let bss : List Bids = all_held rows in
-      let A : List ℕ → Type 0 = λ cs. (i : ℕ) → i < length bss → IsTaken (get_or bss i []) (get_or cs i 0) (get_or s.taken i nothing_taken) in
-      record {
-        taken = record { long = z.taken.long; each = subst A lot-choice z.taken.each; none = z.taken.none };
-        paid = record { long = z.paid.long; each = λ i lt. z.paid.each i lt ∙ lot-pays i; none = z.paid.none };
-      }
+pub shared-lot : (rows : List Row) (n w : ℕ) (ss : List Share) → w + 1 ≡ 2 ^ min n 16 → Shared (all_held rows) (bits 16 w) ss → Shared (all_held rows) (all n) ss
+shared-lot rows n w ss e = shared_by_sixteen rows n (bits 16 w) ss (packed_all_is 16 n w e)

@@ -1,5 +1,7 @@
 -- A bidder by itself. Assumes nothing: these are definitions.
-use Rattle.std.specs.Prelude.{◌≡◌, ℕ, ◌<◌, ◌≢◌, List, bit_and, slice_index}
+use Rattle.std.specs.Prelude.{◌≡◌, ℕ, ◌≢◌, ◌+◌, Option, None, Some as there, List, bit_and}
+use Rattle.bundles.specs.declared.Bundle.{Bundle}
+use Rattle.settling.specs.Groups.{want}
 use Rattle.auction.specs.Bids.{Some, Bids, first_good, with_some}
 
 -- the highest price of its bids that fit
@@ -10,6 +12,11 @@ highest bs free = with_some bs free (λ _. 0)
 abbrev pub alone : Bids → Some → ℕ
 alone bs free = first_good bs free (λ _. 0) (highest bs free) 0
 
--- no other of the first n wants one of this bidder's pieces
-pub record WantsApart (ws : List ℕ) (i n : ℕ) : Type 0 where
-  pub each : (j : ℕ) → j < n → j ≢ i → bit_and (slice_index ws j) (slice_index ws i) ≡ 0
+-- one more than a place, and 0 for none
+abbrev pub counted : Option ℕ → ℕ
+counted None = 0
+counted (there i) = i + 1
+
+-- nobody else wants one of this bidder's pieces
+pub record WantsApart (ws : List Bundle) (i : ℕ) : Type 0 where
+  pub each : (j : ℕ) → j ≢ i → bit_and (want ws j) (want ws i) ≡ 0

@@ -1,77 +1,65 @@
 // Everybody's shares, group by group.
-ghost use Rattle.std.specs.Prelude.{ℕ, ◌^◌, ◌<◌, ◌≤◌, length, slice_index};
+ghost use Rattle.std.specs.Prelude.{◌≤◌, length};
 ghost use Rattle.auction.specs.Bids.{Some as SetOfPieces};
 ghost use Rattle.bundles.specs.Masks.{bits};
-ghost use Rattle.bundles.specs.Rows.{all_held};
-ghost use Rattle.settling.specs.Apart.{Whole, WithGroup};
-ghost use Rattle.settling.specs.Groups.{AllWants, GroupShares, In};
+ghost use Rattle.bundles.specs.Offers.{all_meant};
+ghost use Rattle.bundles.specs.Rows.{all_held, held};
+ghost use Rattle.settling.specs.Apart.{WithGroup};
+ghost use Rattle.settling.specs.Groups.{GroupShares};
+ghost use Rattle.settling.specs.Packs.{places_in};
+ghost use Rattle.solver.specs.Choosing.{IsTaken, number_of};
 ghost use Rattle.solver.specs.Paying.{RoomToPay};
 ghost use Rattle.solver.specs.Sharing.{Shared};
 
-use crate::grouping::group_of;
-use crate::groups::share_group;
-use crate::lone::{best_alone, is_lone, taken_at};
-use bundles::{Bid, Bundle, Row};
-use solver::{Shares, Taken};
+use crate::grouping::Party;
+use crate::lone::{best_alone, taken_at};
+use bundles::{Bundle, Row};
+use solver::{Share, Shares, Taken};
 
-const NOTHING: Taken = Taken {
-    place: 0,
-    bid: Bid {
-        on: Bundle { mask: 0 },
-        price: 0,
-    },
-};
+impl Party<'_> {
+    // Shares out all pieces that there are: a bidder whose pieces nobody else wants by itself, and the others in the groups that share pieces, each by tables
+    // of its own pieces only.
+    pub fn share(&self, tables: &mut [u32]) -> Shares
+        requires { RoomToPay (length tables.old) (places_in self.now.whole.mask) (length self.now.rows.now) }
+        ensures { Shared (all_held self.now.rows.now) (bits 16 self.now.whole.mask) result }
+    {
+        let mut shares = [Share::default(); 32];
+        let mut done = Bundle::default();
+        for (bidder, row) in self.rows.iter().enumerate() {
+            if self.is_lone(bidder) {
+                shares[bidder] = Share {
+                    taken: best_alone(row, self.whole),
+                    paid: 0,
+                };
+            } else if !self.wants[bidder].shares(done) {
+                let group = self.group_of(bidder);
+                let of_group = self.share_group(tables, group);
+                self.put_group(group, &of_group, &mut shares);
+                done = done.joined(group);
+            }
+        }
+        shares
+    }
 
-// Shares out all pieces that there are: a bidder whose pieces nobody else wants by itself, and the others in the groups that share pieces, each by tables
-// of its own pieces only.
-pub fn share_apart(
-    tables: &mut [u32],
-    pieces: u32,
-    whole: Bundle,
-    rows: &[Row],
-    wants: &[u16; 32],
-) -> Shares
-    requires room { (RoomToPay (length tables.old) pieces (length rows.now)) × (whole.mask < 2 ^ pieces) }
-    requires wants { (AllWants rows.now wants.now) × (((j : ℕ) → In (slice_index wants.now j) whole.mask)) }
-    ensures { Shared (all_held rows.now) (bits 16 whole.mask) result }
-{
-    let mut all = Shares {
-        taken: [NOTHING; 32],
-        paid: [0; 32],
-    };
-    let mut done = 0;
-    for bidder in 0..rows.len() {
-        if is_lone(wants, bidder) {
-            all.taken[bidder] = taken_at(&rows[bidder], best_alone(&rows[bidder], whole));
-            all.paid[bidder] = 0;
-        } else if wants[bidder] & done == 0 {
-            let group = Bundle {
-                mask: group_of(wants, whole.mask, wants[bidder]),
-            };
-            let shares = share_group(tables, whole, rows, wants, group);
-            all = with_group(rows, wants, group, &shares, all);
-            done = done | group.mask;
+    // Puts the shares of a group's members in their places.
+    fn put_group(&self, group: Bundle, of_group: &Shares, shares: &mut Shares)
+        ensures { (free : SetOfPieces) → GroupShares self.now.rows.now self.now.wants group.mask free of_group.now → WithGroup self.now.rows.now self.now.wants group.mask free shares.old shares.new }
+    {
+        for (member, row) in self.rows.iter().enumerate() {
+            if self.wants[member].shares(group) {
+                let share = of_group[member];
+                shares[member] = Share {
+                    taken: own_bid(row, share.taken),
+                    paid: share.paid,
+                };
+            }
         }
     }
-    all
 }
 
-// Puts the shares of a group's members in their places.
-fn with_group(
-    rows: &[Row],
-    wants: &[u16; 32],
-    group: Bundle,
-    shares: &Shares,
-    mut all: Shares,
-) -> Shares
-    requires { (length rows.now ≤ 32) × ((Whole shares.now) × (Whole all)) }
-    ensures { (free : SetOfPieces) → GroupShares rows.now wants.now group.mask free shares.now → WithGroup rows.now wants.now group.mask free all result }
+// What a member gets, by its own bid in place of the one on pieces moved together.
+fn own_bid(row: &Row, taken: Option<Taken>) -> Option<Taken>
+    ensures { number_of taken ≤ length (held row.now) → IsTaken (all_meant (held row.now)) (number_of taken) result }
 {
-    for j in 0..rows.len() {
-        if wants[j] & group.mask != 0 {
-            all.taken[j] = taken_at(&rows[j], shares.taken[j].place);
-            all.paid[j] = shares.paid[j];
-        }
-    }
-    all
+    taken_at(row, taken?.place)
 }

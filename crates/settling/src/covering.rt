@@ -11,8 +11,8 @@ use bundles::{Bid, Row};
 pub fn matter(row: &Row) -> Row
     ensures { Kept (all_meant (held result)) (all_meant (held row.now)) }
 {
-    let back = uncovered(row.bids());
-    uncovered(back.bids())
+    let back = uncovered(row.as_slice());
+    uncovered(back.as_slice())
 }
 
 // These bids but for those that one behind covers, from the last to the first.
@@ -21,9 +21,9 @@ fn uncovered(bids: &[Bid]) -> Row
     ensures { Kept (all_meant (held result)) (all_meant bids.now) }
 {
     let mut left = Row::new();
-    for i in (0..bids.len()).rev() {
-        if !is_covered(bids[i], left.bids()) {
-            left.push(bids[i]);
+    for bid in bids.iter().rev() {
+        if !is_covered(*bid, left.as_slice()) {
+            left.push(*bid);
         }
     }
     left
@@ -33,12 +33,7 @@ fn uncovered(bids: &[Bid]) -> Row
 fn is_covered(bid: Bid, by: &[Bid]) -> bool
     ensures { result ≡ covered (meant bid) (all_meant by.now) }
 {
-    for other in by {
-        if is_cover(*other, bid) {
-            return true;
-        }
-    }
-    false
+    by.iter().any(|other| is_cover(*other, bid))
 }
 
 fn is_cover(bid: Bid, other: Bid) -> bool

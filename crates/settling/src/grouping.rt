@@ -1,72 +1,100 @@
 // Bidders fall into groups that share pieces: each is settled by itself, over its own pieces only.
-ghost use Rattle.std.specs.Prelude.{◌≡◌, ℕ, ◌<◌, ◌≤◌, true, length, slice_index};
+ghost use Rattle.std.specs.Prelude.{◌≡◌, ℕ, ◌<◌, ◌≤◌, ◌↔◌, [], length, map, slice_index_or, IsTrue, IsNone, IfSome};
 ghost use Rattle.bundles.specs.Rows.{held};
-ghost use Rattle.settling.specs.Groups.{AllWants, Grown, GroupPieces, In, wants as wants_in};
+ghost use Rattle.settling.specs.Groups.{AllWants, Grown, GroupPieces, In, want, wants as wants_in};
 
-use bundles::Row;
+use bundles::{Bundle, Row};
+use std::array;
+
+// The bidders of a lot and what each wants of the pieces that there are; behind the last one nothing. What they want stands beside their rows of bids and
+// not with them, since the rows are lent memory, and the solver takes them so. A bidder's number is below 32 wherever one is asked for: a type for that would
+// be made and taken apart at each index.
+#[derive(Clone, Copy)]
+pub struct Party<'a> {
+    pub whole: Bundle,
+    pub rows: &'a [Row],
+    pub wants: [Bundle; 32],
+    ghost few: { length rows.now ≤ 32 },
+    ghost known: { AllWants rows.now wants },
+    ghost inside: { (j : ℕ) → In (want wants j) whole.mask },
+}
+
+impl Party<'_> {
+    // None where somebody wants a piece that there isn't.
+    pub fn new(whole: Bundle, rows: &[Row]) -> Option<Party<'_>>
+        requires { length rows.now ≤ 32 }
+        ensures some { IfSome result (λ p. (p.whole ≡ whole) × (p.rows.now ≡ rows.now)) }
+        ensures none { IsNone result → ¬ ((i : ℕ) → In (wants_in (slice_index_or (map held rows.now) i [])) whole.mask) }
+    {
+        let wants = wants_of_all(rows);
+        if !all_within(&wants, whole) {
+            return None;
+        }
+        Some(Party { whole, rows, wants })
+    }
+
+    // The pieces of a bidder's group: whoever wants one of them wants no others.
+    pub fn group_of(&self, bidder: usize) -> Bundle
+        requires { bidder < 32 }
+        ensures { GroupPieces self.now.wants self.now.whole.mask (want self.now.wants bidder) result.mask }
+    {
+        let mut pieces = self.wants[bidder];
+        loop {
+            let more = self.grow(pieces);
+            if more == pieces {
+                return pieces;
+            }
+            pieces = more;
+        }
+    }
+
+    // These pieces, and all that bidders want who want one of them.
+    fn grow(&self, pieces: Bundle) -> Bundle
+        requires { In pieces.mask self.now.whole.mask }
+        ensures { Grown self.now.wants self.now.whole.mask pieces.mask result.mask }
+    {
+        let mut more = pieces;
+        for wants in &self.wants {
+            if wants.shares(pieces) {
+                more = more.joined(*wants);
+            }
+        }
+        more
+    }
+}
+
+// What each bidder wants.
+fn wants_of_all(rows: &[Row]) -> [Bundle; 32]
+    requires { length rows.now ≤ 32 }
+    ensures { AllWants rows.now result }
+{
+    array::from_fn(|bidder| wants_at(rows, bidder))
+}
+
+// What a bidder wants, by its number; behind the last one nothing is wanted.
+fn wants_at(rows: &[Row], bidder: usize) -> Bundle
+    ensures { result.mask ≡ wants_in (slice_index_or (map held rows.now) bidder []) }
+{
+    match rows.get(bidder) {
+        Some(row) => wants_of(row),
+        None => Bundle::default(),
+    }
+}
 
 // What a bidder wants: the pieces of all its bids.
-pub fn wants_of(row: &Row) -> u16
-    ensures { result ≡ wants_in (held row.now) }
+fn wants_of(row: &Row) -> Bundle
+    ensures { result.mask ≡ wants_in (held row.now) }
 {
-    let bids = row.bids();
-    let mut pieces = 0;
-    for i in (0..bids.len()).rev() {
-        pieces = bids[i].on.mask | pieces;
+    let mut pieces = Bundle::default();
+    for bid in row.as_slice() {
+        pieces = pieces.joined(bid.on);
     }
     pieces
 }
 
-// What each bidder wants; behind the last one nothing is wanted.
-pub fn wants_of_all(rows: &[Row]) -> [u16; 32]
-    requires { length rows.now ≤ 32 }
-    ensures { AllWants rows.now result }
-{
-    let mut wants = [0; 32];
-    for i in 0..rows.len() {
-        wants[i] = wants_of(&rows[i]);
-    }
-    wants
-}
-
 // Is all that anybody wants among these pieces?
-pub fn all_within(wants: &[u16; 32], all: u16) -> bool
-    ensures { result ≡ true → (j : ℕ) → In (slice_index wants.now j) all }
+fn all_within(wants: &[Bundle; 32], whole: Bundle) -> bool
+    ensures { IsTrue result ↔ ((j : ℕ) → In (want wants.now j) whole.mask) }
 {
-    for j in 0..32 {
-        if wants[j] & all != wants[j] {
-            return false;
-        }
-    }
-    true
-}
-
-// The pieces of the group that wants these, among all that anybody wants: whoever wants one of them wants no others. At most one round for each piece.
-pub fn group_of(wants: &[u16; 32], all: u16, start: u16) -> u16
-    requires { (((j : ℕ) → In (slice_index wants.now j) all)) × (In start all) }
-    ensures { GroupPieces wants.now all start result }
-{
-    let mut pieces = start;
-    for _round in 0..16u32 {
-        let more = grow(wants, all, pieces);
-        if more == pieces {
-            return pieces;
-        }
-        pieces = more;
-    }
-    all
-}
-
-// These pieces, and all that bidders want who want one of them.
-fn grow(wants: &[u16; 32], all: u16, pieces: u16) -> u16
-    requires { (((j : ℕ) → slice_index wants.now j < 65536)) × ((((j : ℕ) → In (slice_index wants.now j) all)) × (In pieces all)) }
-    ensures { Grown wants.now all pieces result }
-{
-    let mut more = pieces;
-    for i in 0..32 {
-        if wants[i] & pieces != 0 {
-            more = more | wants[i];
-        }
-    }
-    more
+    wants.iter().all(|wants| wants.is_within(whole))
 }

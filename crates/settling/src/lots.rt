@@ -6,10 +6,9 @@ ghost use Rattle.settling.specs.Settled.{Settled};
 ghost use Rattle.solver.specs.Paying.{RoomToPay};
 ghost use Rattle.solver.specs.Sharing.{Shared};
 
-use crate::apart::share_apart;
-use crate::grouping::{all_within, wants_of_all};
-use crate::totals::add_up;
-use bundles::{Bundle, Row};
+use crate::grouping::Party;
+use crate::totals::{payments_of, prices_of};
+use bundles::{Bundle, MOST_PIECES, Row};
 use solver::{Shares, share_out};
 
 // By bidder what is taken of its bids and what it pays; the prices of all bids taken, and all that is paid.
@@ -28,11 +27,10 @@ pub fn settle(tables: &mut [u32], pieces: u32, rows: &[Row]) -> Settlement
 {
     let shares = share_lot(tables, pieces, rows);
     tables.fill(0);
-    let sums = add_up(&shares, rows.len());
     Settlement {
         shares,
-        comes_to: sums.comes_to,
-        brings: sums.brings,
+        comes_to: prices_of(&shares),
+        brings: payments_of(&shares),
     }
 }
 
@@ -41,19 +39,20 @@ fn share_lot(tables: &mut [u32], pieces: u32, rows: &[Row]) -> Shares
     requires { RoomToPay (length tables.old) (min pieces 16) (length rows.now) }
     ensures { Shared (all_held rows.now) (all pieces) result }
 {
-    let counted = pieces.min(16);
+    let counted = pieces.min(MOST_PIECES);
     let whole = all_of(counted);
-    let wants = wants_of_all(rows);
-    if all_within(&wants, whole) {
-        return share_apart(tables, counted, Bundle { mask: whole }, rows, &wants);
+    match Party::new(whole, rows) {
+        Some(party) => party.share(tables),
+        None => share_out(tables, counted, usize::from(whole.mask), rows, rows),
     }
-    share_out(tables, counted, usize::from(whole), rows, rows)
 }
 
 // The set of so many pieces.
-fn all_of(pieces: u32) -> u16
+fn all_of(pieces: u32) -> Bundle
     requires { pieces ≤ 16 }
-    ensures { result + 1 ≡ 2 ^ pieces }
+    ensures { result.mask + 1 ≡ 2 ^ pieces }
 {
-    ((1u32 << pieces) - 1) as u16
+    Bundle {
+        mask: ((1u32 << pieces) - 1) as u16,
+    }
 }

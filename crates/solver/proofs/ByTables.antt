@@ -1,26 +1,16 @@
 -- A group of bidders settled by tables of the bids that matter. Assumes nothing.
-use Rattle.std.proofs.Common.{◌≡◌, ℕ, ◌+◌, ◌-◌, ◌<◌, ◌≤◌, List, [], length, get_or, drop, sym, ap, ◌∙◌, subst, ap₂, arith}
+use Rattle.std.proofs.Common.{◌≡◌, ℕ, ◌+◌, ◌-◌, ◌<◌, ◌≤◌, List, [], length, get_or, drop, None, Option, sym, ap, ◌∙◌, subst, ap₂, arith}
 use Rattle.std.proofs.lemmas.List.{get_or-drop, length-drop}
-use Rattle.auction.specs.Bids.{Some, Bids, best, without}
+use Rattle.auction.specs.Bids.{Some, Bids, best, without, choice}
 use Rattle.auction.specs.Faster.{Kept, KeptBest}
 use Rattle.auction.proofs.Kept.{kept_best}
 use Rattle.bundles.specs.Masks.{bits}
-use Rattle.bundles.specs.Rows.{all_held}
-use Rattle.bundles.specs.declared.row.Row.{Row}
-use Rattle.solver.specs.Welfare.{FilledFrom, Room}
-use Rattle.solver.specs.Choosing.{Solved, Allocated, nothing_taken}
-use Rattle.solver.specs.Paying.{Charged, Paid, RoomToPay}
-use Rattle.solver.specs.Sharing.{AllKept}
-use Rattle.solver.specs.declared.choosing.Taken.{Taken}
-use Rattle.solver.proofs.Bidders.{as_many, table_later}
-
-pub room_to_fill : (len n bidders : ℕ) → RoomToPay len n bidders → Room len n bidders
-room_to_fill len n bidders room =
-    record { few_pieces = room.few_pieces; few_bidders = room.few_bidders; words = omega (arith, table_later n (bidders + 1) (bidders + 3) (omega arith), room.words) }
-
--- as many rows are kept as there are
-pub kept_many : (kept rows : List Row) → AllKept (all_held kept) (all_held rows) → length kept ≡ length rows
-kept_many kept rows k = sym (as_many kept) ∙ k.long ∙ as_many rows
+use Rattle.solver.specs.Welfare.{FilledFrom}
+use Rattle.solver.specs.Choosing.{Solved, Allocated, IsTaken, price_of}
+use Rattle.solver.specs.Paying.{Charged}
+use Rattle.solver.specs.Sharing.{AllKept, Shared}
+use Rattle.solver.specs.declared.outcome.Share.{Share}
+use Rattle.solver.specs.declared.outcome.Taken.{Taken}
 
 pub solved_by : (t u : List ℕ) (n : ℕ) (bss : List Bids) → length bss ≤ 32 → FilledFrom t u n bss 0 → Solved u n bss
 solved_by t u n bss few f =
@@ -51,15 +41,20 @@ module _ (kepts bss : List Bids) (k : AllKept kepts bss) where
       }
 
   -- and so are payments
-  pub paid_as : (free : Some) (ts : List Taken) (ps : List ℕ) → Allocated bss free ts → Charged kepts free ts ps → Paid bss free ps
+  pub shared_as : (free : Some) (ts : List (Option Taken)) (ss : List Share) → Allocated bss free ts → Charged kepts free ts ss → Shared bss free ss
   unfolding KeptBest
-  paid_as free ts ps a c =
+  shared_as free ts ss a c =
       let same = kept_best kepts bss free k.long k.each in
       record {
         long = c.long;
         each = λ i lt.
-            c.each i (omega (arith, k.long))
-            ∙ ap₂ (λ (x y : ℕ). x - (y - (get_or ts i nothing_taken).bid.price)) (same.1 i) same.0
-            ∙ ap (λ (p : ℕ). best (without bss i) free - (best bss free - p)) (a.each i lt).price;
+            let T : Option Taken → Type 0 = λ t. IsTaken (get_or bss i []) (get_or (choice bss free) i 0) t in
+            record {
+              taken = subst T (sym (c.taken i (omega (arith, k.long)))) (a.each i lt);
+              paid =
+                  c.paid i (omega (arith, k.long))
+                  ∙ ap₂ (λ (x y : ℕ). x - (y - price_of (get_or ts i None))) (same.1 i) same.0
+                  ∙ ap (λ (p : ℕ). best (without bss i) free - (best bss free - p)) (a.each i lt).price;
+            };
         none = λ i le. c.none i (omega (arith, k.long));
       }

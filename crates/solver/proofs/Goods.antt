@@ -1,55 +1,65 @@
 -- The first bid with which the most is still had, by the sums of a table. Assumes nothing.
-use Rattle.std.proofs.Common.{◌≡◌, ℕ, suc, ◌+◌, ◌-◌, ◌^◌, ◌<◌, ◌≤◌, Bool, true, false, ◌&&◌, eqb, List, length, get_or, drop, sym, ap, ◌∙◌, ap₂, add-one}
+use Rattle.std.proofs.Common.{◌≡◌, ℕ, zero, suc, ◌+◌, ◌-◌, ◌^◌, ◌<◌, Bool, true, false, ◌&&◌, eqb, List, Option, None, Some as there, [], ◌∷◌, length, refl, sym, ap, ◌∙◌, ap₂, arith}
 use lib.Bits.{bit_and, and_comm}
-use Rattle.std.proofs.lemmas.List.{drop_all, drop_more}
+use Rattle.std.specs.List.{AllWithin, HoldsAt}
+use Rattle.std.specs.Option.{MatchOption}
 use Rattle.std.proofs.lemmas.Bool.{eq-eqb, ne_eqb}
-use Rattle.auction.specs.Bids.{Some, within, less, pick, first_good}
+use Rattle.std.proofs.lemmas.List.{length-map}
+use Rattle.auction.specs.Bids.{Some, within, less, first_good}
 use Rattle.bundles.specs.declared.Bid.{Bid}
 use Rattle.bundles.specs.Masks.{bits}
 use Rattle.bundles.specs.Offers.{meant, all_meant}
 use Rattle.bundles.proofs.Picks.{pick_yes, pick_no}
 use Rattle.bundles.proofs.Sets.{within-bits}
-use Rattle.solver.specs.Tables.{sum_at, Holds}
-use Rattle.solver.specs.Choosing.{good}
+use Rattle.solver.specs.Tables.{sum_in, Holds}
+use Rattle.solver.specs.Choosing.{good, IsFirst}
 use Rattle.solver.proofs.Offers.{left_over}
-
--- one bid, by its mask
-module _ (t : List ℕ) (next n on price s most : ℕ) (rest : Some → ℕ) (small : on < 65536) (h : s < 2 ^ n) (holds : Holds t next n rest) where
-  test : eqb (bit_and on s) on ≡ within (bits 16 on) (bits n s)
-  test = within-bits 16 n on s small h
-
-  pub good-fits : bit_and s on ≡ on → eqb (price + sum_at t next (s - on)) most ≡ good (record { on = bits 16 on; price = price }) (bits n s) rest most
-  good-fits fits =
-      let held : bit_and on s ≡ on = and_comm on s ∙ fits in
-      ap₂ (λ (a : Bool) (x : ℕ). a && eqb (price + x) most) (sym (eq-eqb (bit_and on s) on held) ∙ test) (left_over t next n on s rest small h held holds)
-
-  pub good_misses : (bit_and s on ≡ on → ⊥) → false ≡ good (record { on = bits 16 on; price = price }) (bits n s) rest most
-  good_misses misses =
-      let away : (bit_and on s ≡ on → ⊥) = λ e. misses (and_comm s on ∙ e) in
-      ap (λ (a : Bool). a && eqb (price + rest (less (bits n s) (bits 16 on))) most) (sym (ne_eqb (bit_and on s) on away) ∙ test)
 
 -- what a slice of bids has past its end
 abbrev pub nothing : Bid
 nothing = record { on = record { mask = 0 }; price = 0 }
 
--- the bids before this one are not good, whatever the table holds
-pub record Passed (t : List ℕ) (next n : ℕ) (bids : List Bid) (free most i : ℕ) : Type 0 where
-  pub same : (rest : Some → ℕ) → Holds t next n rest → first_good (all_meant bids) (bits n free) rest most 0 ≡ first_good (all_meant (drop i bids)) (bits n free) rest most i
+-- one bid, by its mask and its price
+module _ (t : List ℕ) (n : ℕ) (b : Bid) (s most on : ℕ) (has : Some → ℕ) (same : on ≡ b.on.mask) (small : on < 65536) (h : s < 2 ^ n) (holds : Holds t n has) where
+  test : eqb (bit_and on s) on ≡ within (bits 16 b.on.mask) (bits n s)
+  test = within-bits 16 n on s small h ∙ ap (λ (m : ℕ). within (bits 16 m) (bits n s)) same
 
-module _ (t : List ℕ) (next n : ℕ) (bids : List Bid) (free most i : ℕ) (p : Passed t next n bids free most i) where
-  -- the next bid decides, or the one behind it
-  here : (rest : Some → ℕ) → Holds t next n rest → i < length bids →
-      first_good (all_meant bids) (bits n free) rest most 0 ≡ pick (good (meant (get_or bids i nothing)) (bits n free) rest most) (suc i) (first_good (all_meant (drop (i + 1) bids)) (bits n free) rest most (suc i))
+  pub good_fits : (price sum : ℕ) → bit_and s on ≡ on → price ≡ b.price → sum ≡ sum_in t (s - on) → eqb (price + sum) most ≡ good (meant b) (bits n s) has most
+  good_fits price sum fits bid e =
+      let held : bit_and on s ≡ on = and_comm on s ∙ fits in
+      let rest = e ∙ left_over t n on s has small h held holds ∙ ap (λ (m : ℕ). has (less (bits n s) (bits 16 m))) same in
+      ap₂ (λ (p x : ℕ). eqb (p + x) most) bid rest ∙ ap (λ (a : Bool). a && eqb (b.price + has (less (bits n s) (bits 16 b.on.mask))) most) (sym (eq-eqb (bit_and on s) on held) ∙ test)
+
+  pub good_misses : (bit_and s on ≡ on → ⊥) → eqb (bit_and s on) on ≡ good (meant b) (bits n s) has most
+  good_misses misses =
+      let away : (bit_and on s ≡ on → ⊥) = λ e. misses (and_comm s on ∙ e) in
+      ne_eqb (bit_and s on) on misses ∙ ap (λ (a : Bool). a && eqb (b.price + has (less (bits n s) (bits 16 b.on.mask))) most) (sym (ne_eqb (bit_and on s) on away) ∙ test)
+
+-- what is found of a bid by the sums of a table, whatever it holds
+abbrev pub Found : List ℕ → ℕ → ℕ → Bool → Bid → Type 0
+Found t s most found b = (n : ℕ) (has : Some → ℕ) → s < 2 ^ n → Holds t n has → found ≡ good (meant b) (bits n s) has most
+
+-- the first that is found good is the meaning's
+module _ (t : List ℕ) (n s most : ℕ) (has : Some → ℕ) (h : s < 2 ^ n) (holds : Holds t n has) where
+  pub none_good : (bids : List Bid) (k : ℕ) → AllWithin (Found t s most false) bids 0 (length bids) → 0 ≡ first_good (all_meant bids) (bits n s) has most k
   unfolding first_good
-  here rest h lt = p.same rest h ∙ ap (λ (bs : List Bid). first_good (all_meant bs) (bits n free) rest most i) (drop_more bids i nothing lt)
+  none_good [] k misses = refl
+  none_good (b ∷ bids) k misses =
+      none_good bids (suc k) (λ j d low high. misses (suc j) d (omega arith) (omega arith)) ∙ sym (pick_no (suc k) _ (sym (misses 0 b (omega arith) (omega arith) n has h holds)))
 
-  pub found_good : (rest : Some → ℕ) → Holds t next n rest → i < length bids → good (meant (get_or bids i nothing)) (bits n free) rest most ≡ true → i + 1 ≡ first_good (all_meant bids) (bits n free) rest most 0
-  found_good rest h lt yes' = add-one i ∙ sym (here rest h lt ∙ pick_yes (suc i) _ yes')
-
-  pub passed_more : i < length bids → ((rest : Some → ℕ) → Holds t next n rest → good (meant (get_or bids i nothing)) (bits n free) rest most ≡ false) → Passed t next n bids free most (i + 1)
-  passed_more lt misses =
-      record { same = λ rest h. here rest h lt ∙ pick_no (suc i) _ (misses rest h) ∙ ap (λ (j : ℕ). first_good (all_meant (drop (i + 1) bids)) (bits n free) rest most j) (sym (add-one i)) }
-
-  pub passed_all : length bids ≤ i → (rest : Some → ℕ) → Holds t next n rest → 0 ≡ first_good (all_meant bids) (bits n free) rest most 0
+  pub first_is : (bids : List Bid) (i k : ℕ) → i < length bids → HoldsAt (Found t s most true) bids i → AllWithin (Found t s most false) bids 0 i → i + 1 + k ≡ first_good (all_meant bids) (bits n s) has most k
   unfolding first_good
-  passed_all le rest h = sym (p.same rest h ∙ ap (λ (bs : List Bid). first_good (all_meant bs) (bits n free) rest most i) (drop_all i bids le))
+  first_is [] i k lt fits misses = absurd (omega arith)
+  first_is (b ∷ bids) zero k lt fits misses = let next : 0 + 1 + k ≡ suc k = omega arith in next ∙ sym (pick_yes (suc k) _ (sym (fits b n has h holds)))
+  first_is (b ∷ bids) (suc i) k lt fits misses =
+      let next : suc i + 1 + k ≡ i + 1 + suc k = omega arith in
+      next
+      ∙ first_is bids i (suc k) (omega arith) fits (λ j d low high. misses (suc j) d (omega arith) (omega arith))
+      ∙ sym (pick_no (suc k) _ (sym (misses 0 b (omega arith) (omega arith) n has h holds)))
+
+-- what is found at a place
+pub first_there : (t : List ℕ) (n s most : ℕ) (has : Some → ℕ) (bids : List Bid) (r : Option ℕ) → s < 2 ^ n → Holds t n has →
+    MatchOption r (AllWithin (Found t s most false) bids 0 (length bids)) (λ i. (i < length bids) × HoldsAt (Found t s most true) bids i × AllWithin (Found t s most false) bids 0 i) → IsFirst r (all_meant bids) (bits n s) has most
+first_there t n s most has bids None h holds misses = none_good t n s most has h holds bids 0 misses
+first_there t n s most has bids (there i) h holds found =
+    (omega (arith, length-map bids meant, found.0), omega (arith, first_is t n s most has h holds bids i 0 found.0 found.1 found.2))

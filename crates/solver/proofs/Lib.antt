@@ -1,5 +1,4 @@
 pub mod Supersets
-pub mod Written
 pub mod Offers
 pub mod Fills
 pub mod Bidders

@@ -22,6 +22,11 @@ upper_held s m e = (omega (arith, and_step s m), omega (arith, and_step s m))
 or_held : (m s : ℕ) → bit_and s m ≡ s → bit_or m s ≡ m
 or_held m s e = omega (arith, or_add_and m s, and_comm s m)
 
+-- a number has no more bits than it says
+pub below_power : (m : ℕ) → m < 2 ^ m
+below_power zero = omega arith
+below_power (suc m) = omega (arith, pow-suc 2 m, below_power m)
+
 -- none is left out: every set past m that holds s comes at (m + 1) | s or later
 pub next_least : (k m x s : ℕ) → m < 2 ^ k → bit_and s m ≡ s → bit_and s x ≡ s → m < x → bit_or (m + 1) s ≤ x
 next_least zero m x s hm held held_x past =

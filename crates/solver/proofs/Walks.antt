@@ -1,11 +1,11 @@
 -- Going from bidder to bidder, each choosing from what those before it leave. Assumes nothing.
-use Rattle.std.proofs.Common.{◌≡◌, ℕ, zero, suc, ◌+◌, ◌/◌, ◌%◌, ◌^◌, ◌<◌, ◌≤◌, ◌⊎◌, List, [], ◌∷◌, length, get_or, drop, set, replicate, sym, refl, ap, ◌∙◌, subst, ap₂, inl, inr, add-zero, pow-suc, arith}
-use Rattle.std.proofs.lemmas.List.{drop_more, drop-drop, get_or-drop, get_or_past, get_or-replicate, get_or-set_same, get_or-set_other, length-set}
+use Rattle.std.proofs.Common.{◌≡◌, ℕ, zero, suc, ◌+◌, ◌-◌, ◌/◌, ◌%◌, ◌^◌, ◌<◌, ◌≤◌, ◌⊎◌, List, [], ◌∷◌, ◌++◌, length, get_or, drop, set, replicate, None, Option, sym, refl, ap, ◌∙◌, subst, ap₂, inl, inr, add-zero, pow-suc, length-append, arith}
+use Rattle.std.proofs.lemmas.List.{drop_more, drop-drop, get_or-drop, get_or_past, get_or-replicate, length-replicate, get_or_append_left, get_or-append_right, length-drop, get_or-set_same, get_or-set_other, length-set}
 use Rattle.std.proofs.lemmas.Bool.{cases_eq, cases_lt}
 use Rattle.auction.specs.Bids.{Some, Bids, all, less, choice, given}
 use Rattle.bundles.specs.Masks.{bits}
-use Rattle.solver.specs.Choosing.{IsTaken, Allocated, nothing_taken}
-use Rattle.solver.specs.declared.choosing.Taken.{Taken}
+use Rattle.solver.specs.Choosing.{IsTaken, Allocated, pieces_of}
+use Rattle.solver.specs.declared.outcome.Taken.{Taken}
 
 -- the set of all pieces is the largest number
 pub bits-all : (n m : ℕ) → m + 1 ≡ 2 ^ n → bits n m ≡ all n
@@ -17,33 +17,18 @@ bits-all (suc n) m e =
     ap₂ (λ x (xs : Some). x ∷ xs) (rw odd refl) (bits-all n (m / 2) (omega arith))
 
 -- so far: what is left to choose is what the bidders from this one on choose of what is free
-pub record Walked (bss : List Bids) (whole : Some) (n i free : ℕ) (ts : List Taken) : Type 0 where
+pub record Walked (bss : List Bids) (whole : Some) (n i free : ℕ) (ts : List (Option Taken)) : Type 0 where
   pub here : drop i (choice bss whole) ≡ choice (drop i bss) (bits n free)
   pub small : free < 2 ^ n
-  pub long : length ts ≡ 32
-  pub done : (j : ℕ) → j < i → IsTaken (get_or bss j []) (get_or (choice bss whole) j 0) (get_or ts j nothing_taken)
-  pub rest : (j : ℕ) → i ≤ j → get_or ts j nothing_taken ≡ nothing_taken
+  pub long : length ts ≡ length bss
+  pub done : (j : ℕ) → j < i → IsTaken (get_or bss j []) (get_or (choice bss whole) j 0) (get_or ts j None)
 
 choice_from : (bss : List Bids) (i : ℕ) (free : Some) → i < length bss →
     choice (drop i bss) free ≡ get_or (choice (drop i bss) free) 0 0 ∷ choice (drop (i + 1) bss) (less free (given (get_or bss i []) (get_or (choice (drop i bss) free) 0 0)).on)
 unfolding choice
 choice_from bss i free lt = rw (drop_more bss i [] lt) refl
 
-pub walked_none : (bss : List Bids) (n whole : ℕ) (ts : List Taken) → whole < 2 ^ n → ts ≡ replicate 32 nothing_taken → Walked bss (bits n whole) n 0 whole ts
-walked_none bss n whole ts h none =
-    record {
-      here = refl;
-      small = h;
-      long = ap length none;
-      done = λ j h. absurd (omega arith);
-      rest = λ j h. ap (λ (xs : List Taken). get_or xs j nothing_taken) none ∙ at j (cases_lt j 32);
-    }
-  where
-    at : (j : ℕ) → (j < 32) ⊎ (32 ≤ j) → get_or (replicate 32 nothing_taken) j nothing_taken ≡ nothing_taken
-    at j (inl lt) = get_or-replicate 32 j nothing_taken nothing_taken lt
-    at j (inr le) = get_or_past (replicate 32 nothing_taken) j nothing_taken le
-
-module _ (bss : List Bids) (whole : Some) (n i free : ℕ) (ts : List Taken) (w : Walked bss whole n i free ts) (lt : i < length bss) (few : length bss ≤ 32) where
+module _ (bss : List Bids) (whole : Some) (n i free : ℕ) (ts : List (Option Taken)) (w : Walked bss whole n i free ts) (lt : i < length bss) where
   c : ℕ
   c = get_or (choice (drop i bss) (bits n free)) 0 0
 
@@ -52,11 +37,11 @@ module _ (bss : List Bids) (whole : Some) (n i free : ℕ) (ts : List Taken) (w 
   this_one =
       ap (λ (j : ℕ). get_or (choice bss whole) j 0) (sym (add-zero i)) ∙ sym (get_or-drop i (choice bss whole) 0 0) ∙ ap (λ (xs : List ℕ). get_or xs 0 0) w.here
 
-  pub walked_more : (got : Taken) (left : ℕ) → IsTaken (get_or bss i []) (get_or (choice (drop i bss) (bits n free)) 0 0) got → bits n left ≡ less (bits n free) (bits 16 got.bid.on.mask) → left ≤ free →
+  pub walked_more : (got : Option Taken) (left : ℕ) → IsTaken (get_or bss i []) (get_or (choice (drop i bss) (bits n free)) 0 0) got → bits n left ≡ less (bits n free) (bits 16 (pieces_of got)) → left ≤ free →
       Walked bss whole n (i + 1) left (set ts i got)
   unfolding c
   walked_more got left took left_is small =
-      record { here = here; small = omega (arith, w.small); long = length-set ts i got ∙ w.long; done = λ j h. done j h (cases_eq j i); rest = λ j h. get_or-set_other ts i j got nothing_taken (λ e. omega arith) ∙ w.rest j (omega arith) }
+      record { here = here; small = omega (arith, w.small); long = length-set ts i got ∙ w.long; done = λ j h. done j h (cases_eq j i) }
     where
       here : drop (i + 1) (choice bss whole) ≡ choice (drop (i + 1) bss) (bits n left)
       here =
@@ -64,15 +49,32 @@ module _ (bss : List Bids) (whole : Some) (n i free : ℕ) (ts : List Taken) (w 
           ∙ ap (drop 1) (w.here ∙ choice_from bss i (bits n free) lt)
           ∙ ap (choice (drop (i + 1) bss)) (sym (took.left n free) ∙ sym left_is)
 
-      done : (j : ℕ) → j < i + 1 → (j ≡ i) ⊎ (j ≡ i → ⊥) → IsTaken (get_or bss j []) (get_or (choice bss whole) j 0) (get_or (set ts i got) j nothing_taken)
+      done : (j : ℕ) → j < i + 1 → (j ≡ i) ⊎ (j ≡ i → ⊥) → IsTaken (get_or bss j []) (get_or (choice bss whole) j 0) (get_or (set ts i got) j None)
       done j h (inl e) =
-          let P : ℕ → Type 0 = λ k. IsTaken (get_or bss k []) (get_or (choice bss whole) k 0) (get_or (set ts i got) k nothing_taken) in
-          let Q : ℕ → Type 0 = λ x. IsTaken (get_or bss i []) x (get_or (set ts i got) i nothing_taken) in
-          let R : Taken → Type 0 = λ t. IsTaken (get_or bss i []) c t in
-          subst P (sym e) (subst Q (sym this_one) (subst R (sym (get_or-set_same ts i got nothing_taken (omega (arith, w.long)))) took))
+          let P : ℕ → Type 0 = λ k. IsTaken (get_or bss k []) (get_or (choice bss whole) k 0) (get_or (set ts i got) k None) in
+          let Q : ℕ → Type 0 = λ x. IsTaken (get_or bss i []) x (get_or (set ts i got) i None) in
+          let R : Option Taken → Type 0 = λ t. IsTaken (get_or bss i []) c t in
+          subst P (sym e) (subst Q (sym this_one) (subst R (sym (get_or-set_same ts i got None (omega (arith, w.long)))) took))
       done j h (inr ne) =
-          let R : Taken → Type 0 = λ t. IsTaken (get_or bss j []) (get_or (choice bss whole) j 0) t in
-          subst R (sym (get_or-set_other ts i j got nothing_taken ne)) (w.done j (omega arith))
+          let R : Option Taken → Type 0 = λ t. IsTaken (get_or bss j []) (get_or (choice bss whole) j 0) t in
+          subst R (sym (get_or-set_other ts i j got None ne)) (w.done j (omega arith))
 
-pub walked_all : (bss : List Bids) (whole : Some) (n i free : ℕ) (ts : List Taken) → Walked bss whole n i free ts → i ≡ length bss → Allocated bss whole ts
-walked_all bss whole n i free ts w e = record { long = w.long; each = λ j h. w.done j (omega arith); none = λ j h. w.rest j (omega arith) }
+-- what the end of the list has is what it was made of
+pub all_alike : {A : Type 0} (m i : ℕ) (x : A) → get_or (replicate m x) i x ≡ x
+all_alike m i x = at (cases_lt i m)
+  where
+    at : (i < m) ⊎ (m ≤ i) → get_or (replicate m x) i x ≡ x
+    at (inl lt) = get_or-replicate m i x x lt
+    at (inr le) = get_or_past (replicate m x) i x (omega (arith, length-replicate m x))
+
+pub walked_all : (bss : List Bids) (whole : Some) (n i free : ℕ) (ts nones : List (Option Taken)) → Walked bss whole n i free ts → i ≡ length bss → length bss ≤ 32 → nones ≡ replicate 32 None → Allocated bss whole (ts ++ drop (length bss) nones)
+walked_all bss whole n i free ts nones w e few same =
+    record {
+      long = omega (arith, length-append ts (drop (length bss) nones), length-drop (length bss) nones, ap length same, w.long);
+      each = λ j h. rw (get_or_append_left ts (drop (length bss) nones) None j (omega (arith, w.long))) (w.done j (omega arith));
+      none = λ j h.
+          get_or-append_right ts (drop (length bss) nones) (length bss) j None w.long h
+          ∙ get_or-drop (length bss) nones (j - length bss) None
+          ∙ ap (λ (xs : List (Option Taken)). get_or xs (length bss + (j - length bss)) None) same
+          ∙ all_alike 32 (length bss + (j - length bss)) None;
+    }

@@ -1,26 +1,20 @@
 -- What is paid, from the tables of those behind a bidder and those before it. Assumes nothing: these are definitions.
-use Rattle.std.specs.Prelude.{◌≡◌, ℕ, ◌+◌, ◌-◌, ◌^◌, ◌<◌, ◌≤◌, List, length, bit_and, slice_index, slice_index_or}
-use Rattle.auction.specs.Bids.{Some, Bids, best, without, pays}
-use Rattle.solver.specs.Tables.{sum_at, table_words}
-use Rattle.solver.specs.Choosing.{nothing_taken}
+use Rattle.std.specs.Prelude.{◌≡◌, ℕ, ◌+◌, ◌-◌, ◌*◌, ◌<◌, ◌≤◌, List, None, Option, length, bit_and, slice_index_or}
+use Rattle.auction.specs.Bids.{Some, Bids, best, without}
+use Rattle.solver.specs.Tables.{sum_in}
+use Rattle.solver.specs.Choosing.{price_of}
 use Rattle.solver.specs.Welfare.{table_at}
-use Rattle.solver.specs.declared.choosing.Taken.{Taken}
-
--- two tables in so many words, for n pieces, of which there are some
-pub record ToJoin (len a b n whole : ℕ) : Type 0 where
-  pub few : n ≤ 16
-  pub first_fits : a + table_words n ≤ len
-  pub second_fits : b + table_words n ≤ len
-  pub small : whole < 2 ^ n
+use Rattle.solver.specs.declared.outcome.Share.{Share}
+use Rattle.solver.specs.declared.outcome.Taken.{Taken}
 
 -- what two tables have together when the first is given what a set has of the pieces there are, and the second the rest of them
-abbrev pub together : List ℕ → ℕ → ℕ → ℕ → ℕ → ℕ
-together t a b whole s = sum_at t a (bit_and whole s) + sum_at t b (whole - bit_and whole s)
+abbrev pub together : List ℕ → List ℕ → ℕ → ℕ → ℕ
+together a b whole s = sum_in a (bit_and whole s) + sum_in b (whole - bit_and whole s)
 
 -- the most of that, over all ways to part them
-pub record Joined (t : List ℕ) (a b n whole most : ℕ) : Type 0 where
-  pub none_more : (s : ℕ) → s < 2 ^ n → together t a b whole s ≤ most
-  pub some : (s : ℕ) × (s < 2 ^ n) × (together t a b whole s ≡ most)
+pub record Joined (a b : List ℕ) (whole most : ℕ) : Type 0 where
+  pub none_more : (s : ℕ) → 2 * s + 1 < length a → together a b whole s ≤ most
+  pub some : (s : ℕ) × (2 * s + 1 < length a) × (together a b whole s ≡ most)
 
 -- so many words have room for the tables of so many bidders, and for two of those before a bidder
 pub record RoomToPay (len n bidders : ℕ) : Type 0 where
@@ -28,14 +22,13 @@ pub record RoomToPay (len n bidders : ℕ) : Type 0 where
   pub few_bidders : bidders ≤ 32
   pub words : table_at n (bidders + 3) ≤ len
 
--- by these bids, and what was taken at which price, each bidder is charged what the others could have had without it, less what they have; and behind the last one nobody
-pub record Charged (bss : List Bids) (free : Some) (ts : List Taken) (ps : List ℕ) : Type 0 where
-  pub long : length ps ≡ 32
-  pub each : (i : ℕ) → i < length bss → slice_index ps i ≡ best (without bss i) free - (best bss free - (slice_index_or ts i nothing_taken).bid.price)
-  pub none : (i : ℕ) → length bss ≤ i → slice_index ps i ≡ 0
+-- nothing taken and nothing paid
+abbrev pub nothing_taken : Share
+nothing_taken = record { taken = None; paid = 0 }
 
--- each bidder pays what the meaning says, and behind the last one there is nothing
-pub record Paid (bss : List Bids) (free : Some) (ps : List ℕ) : Type 0 where
-  pub long : length ps ≡ 32
-  pub each : (i : ℕ) → i < length bss → slice_index ps i ≡ pays bss free i
-  pub none : (i : ℕ) → length bss ≤ i → slice_index ps i ≡ 0
+-- by these bids, and what was taken at which price, each bidder is charged what the others could have had without it, less what they have; and behind the last one nobody
+pub record Charged (bss : List Bids) (free : Some) (ts : List (Option Taken)) (ss : List Share) : Type 0 where
+  pub long : length ss ≡ 32
+  pub taken : (i : ℕ) → i < length bss → (slice_index_or ss i nothing_taken).taken ≡ slice_index_or ts i None
+  pub paid : (i : ℕ) → i < length bss → (slice_index_or ss i nothing_taken).paid ≡ best (without bss i) free - (best bss free - price_of (slice_index_or ts i None))
+  pub none : (i : ℕ) → length bss ≤ i → slice_index_or ss i nothing_taken ≡ nothing_taken

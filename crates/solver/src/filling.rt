@@ -1,41 +1,37 @@
 // One bidder's table from the next one's: bid by bid, and for each bid over the sets that hold it.
-ghost use Rattle.std.specs.Prelude.{◌≡◌, ◌^◌, [], length};
+ghost use Rattle.std.specs.Prelude.{◌≡◌, length};
 ghost use Rattle.bundles.specs.Offers.{all_meant, meant};
-ghost use Rattle.solver.specs.Tables.{Below, Filled, Offered, TwoTables};
+ghost use Rattle.solver.specs.Tables.{Filled, Offered, Small};
 
-use crate::sums::{raise_sum, sets_of};
+use crate::sums::raise_sum;
 use bundles::Bid;
 
 // Makes a bidder's table of the next one's: for each set the most that comes of it with one at most of these bids, of which there may be any number.
-pub fn fill(tables: &mut [u32], to: usize, from: usize, pieces: u32, sets: usize, bids: &[Bid])
-    requires { (TwoTables (length tables.old) to from pieces) × ((Below tables.old from pieces (2 ^ 63)) × (sets ≡ 2 ^ pieces)) }
-    ensures { Filled tables.old tables.new to from pieces (all_meant bids.now) }
+pub fn fill(to: &mut [u32], from: &[u32], bids: &[Bid])
+    requires same { length to.old ≡ length from.now }
+    requires small { Small from.now }
+    ensures { Filled from.now to.new (all_meant bids.now) }
 {
-    copy_table(tables, to, from, pieces);
-    for i in (0..bids.len()).rev() {
-        offer(tables, to, from, pieces, sets, bids[i]);
+    to.copy_from_slice(from);
+    for &bid in bids {
+        offer(to, from, bid);
     }
 }
 
-// With no bid each set brings what the next one's table says.
-fn copy_table(tables: &mut [u32], to: usize, from: usize, pieces: u32)
-    requires { TwoTables (length tables.old) to from pieces }
-    ensures { Filled tables.old tables.new to from pieces [] }
-{
-    let words = 2 * sets_of(pieces);
-    tables.copy_within(from..from + words, to);
-}
-
+// Two slices and no struct of both, here and where a sum is raised: the one is written while the other is read.
 // For each set that holds the bid's pieces: what it offers with what there is for the rest of the set, if that is more than there was.
 // As many steps as there are sets that hold it: a half for each of its pieces.
-fn offer(tables: &mut [u32], to: usize, from: usize, pieces: u32, sets: usize, bid: Bid)
-    requires { (TwoTables (length tables.old) to from pieces) × ((Below tables.old from pieces (2 ^ 63)) × (sets ≡ 2 ^ pieces)) }
-    ensures { Offered tables.old tables.new to from pieces (meant bid) }
+fn offer(to: &mut [u32], from: &[u32], bid: Bid)
+    requires same { length to.old ≡ length from.now }
+    requires small { Small from.now }
+    ensures { Offered from.now to.old to.new (meant bid) }
 {
+    let sets = to.len() / 2;
     let on = usize::from(bid.on.mask);
     let mut set = on;
+    // The sets that hold it are no range, and `successors(Some(on), |set| Some((set + 1) | on)).take_while(|&set| set < sets)` would be no plainer.
     while set < sets {
-        raise_sum(tables, to, from, set, on, bid.price);
+        raise_sum(to, from, set, on, bid.price);
         set = (set + 1) | on;
     }
 }

@@ -2,12 +2,14 @@
 // these bidders come to, exactly, in lent memory; and from that who gets what, and what is paid.
 #![tactic(auto)]
 
-pub use choosing::Taken;
-pub use sharing::{Shares, share_out};
+pub use choosing::Tables;
+pub use outcome::{Share, Shares, Taken};
+pub use sharing::share_out;
 pub use welfare::fill_tables;
 
 pub mod choosing;
 mod filling;
+mod outcome;
 mod paying;
 pub mod sharing;
 mod sums;

@@ -1,65 +1,64 @@
 // What is paid: what the others could have had without a winner, less what they have (the Clarke payment). What they could have had is not reckoned
 // anew for each: it is the most, over all ways to part the pieces, of what those before the winner and those behind it have.
-ghost use Rattle.std.specs.Prelude.{◌≡◌, ◌-◌, ◌^◌, ◌<◌, length};
+ghost use Rattle.std.specs.Prelude.{◌≡◌, ◌+◌, ◌-◌, ◌*◌, ◌<◌, ◌≤◌, length};
 ghost use Rattle.bundles.specs.Masks.{bits};
 ghost use Rattle.bundles.specs.Rows.{all_held};
-ghost use Rattle.solver.specs.Choosing.{Solved};
-ghost use Rattle.solver.specs.Paying.{Charged, Joined, RoomToPay, ToJoin};
-ghost use Rattle.solver.specs.Tables.{Below};
+ghost use Rattle.solver.specs.Choosing.{price_of};
+ghost use Rattle.solver.specs.Paying.{Charged, Joined};
+ghost use Rattle.solver.specs.Tables.{Small, table_words};
 
-use crate::choosing::Taken;
+use crate::choosing::Tables;
 use crate::filling::fill;
-use crate::sums::{clear_table, get_sum, sets_of, table_of};
-use bundles::Row;
+use crate::outcome::{Share, Shares, Taken};
+use crate::sums::{get_sum, words_of};
+use std::mem::swap;
 
-// What each bidder pays, and behind the last one nothing. The tables of those before a bidder are made in the two behind all others, in turn.
-pub fn pay_all(
-    tables: &mut [u32],
-    pieces: u32,
-    whole: usize,
-    rows: &[Row],
-    taken: &[Taken; 32],
-) -> [u64; 32]
-    requires { (RoomToPay (length tables.old) pieces (length rows.now)) × ((whole < 2 ^ pieces) × (Solved tables.old pieces (all_held rows.now))) }
-    ensures { Charged (all_held rows.now) (bits pieces whole) taken.now result }
-{
-    let most = get_sum(tables, 0, whole);
-    let mut before = table_of(pieces, rows.len() + 1);
-    let mut spare = table_of(pieces, rows.len() + 2);
-    let sets = sets_of(pieces);
-    let mut paid = [0; 32];
-    clear_table(tables, before, pieces);
-    for bidder in 0..rows.len() {
-        let without = join(tables, before, table_of(pieces, bidder + 1), pieces, whole);
-        paid[bidder] = payment(without, most, taken[bidder].bid.price);
-        fill(tables, spare, before, pieces, sets, rows[bidder].bids());
-        let used = before;
-        before = spare;
-        spare = used;
+impl Tables<'_, '_> {
+    // What was taken, with what each bidder pays for it, and behind the last one nothing. The tables of those before a bidder are made in spare words
+    // for two, in turn.
+    pub(crate) fn pay_all(&self, spare: &mut [u32], taken: [Option<Taken>; 32]) -> Shares
+        requires { 2 * table_words self.now.pieces ≤ length spare.old }
+        ensures { Charged (all_held self.now.rows.now) (bits self.now.pieces self.now.whole) taken result }
+    {
+        let words = words_of(self.pieces);
+        let (mut before, spare) = spare.split_at_mut(words);
+        let mut after = &mut spare[..words];
+        let most = get_sum(self.table(0), self.whole);
+        let mut shares = [Share::default(); 32];
+        before.fill(0);
+        for (bidder, row) in self.rows.iter().enumerate() {
+            let without = join(before, self.table(bidder + 1), self.whole);
+            let got = taken[bidder];
+            shares[bidder] = Share {
+                taken: got,
+                paid: payment(without, most, got),
+            };
+            fill(after, before, row.as_slice());
+            swap(&mut before, &mut after);
+        }
+        shares
     }
-    paid
 }
 
 // What the others could have had without a bidder, less what they have of all that is had.
-fn payment(without: u64, most: u64, price: u32) -> u64
-    ensures { result ≡ without - (most - price) }
+fn payment(without: u64, most: u64, taken: Option<Taken>) -> u64
+    ensures { result ≡ without - (most - price_of taken) }
 {
-    without.saturating_sub(most.saturating_sub(u64::from(price)))
+    let price = taken.map_or(0, |taken| u64::from(taken.bid.price));
+    without.saturating_sub(most.saturating_sub(price))
 }
 
 // The most that two groups of bidders, each with its table, have together of all that there is. One step for each set.
-fn join(tables: &[u32], first: usize, second: usize, pieces: u32, whole: usize) -> u64
-    requires { (ToJoin (length tables.now) first second pieces whole) × ((Below tables.now first pieces (2 ^ 63)) × (Below tables.now second pieces (2 ^ 63))) }
-    ensures { Joined tables.now first second pieces whole result }
+fn join(first: &[u32], second: &[u32], whole: usize) -> u64
+    requires fits { (length second.now ≡ length first.now) × (2 * whole + 1 < length first.now) }
+    requires small { (Small first.now) × (Small second.now) }
+    ensures { Joined first.now second.now whole result }
 {
-    let sets = sets_of(pieces);
     let mut most = 0;
-    for set in 0..sets {
+    for set in 0..first.len() / 2 {
         let part = whole & set;
-        let both = get_sum(tables, first, part) + get_sum(tables, second, whole - part);
-        if both > most {
-            most = both;
-        }
+        let both = get_sum(first, part) + get_sum(second, whole - part);
+        most = both.max(most);
     }
     most
 }

@@ -5,17 +5,11 @@ ghost use Rattle.bundles.specs.Rows.{all_held};
 ghost use Rattle.solver.specs.Paying.{RoomToPay};
 ghost use Rattle.solver.specs.Sharing.{AllKept, Shared};
 
-use crate::choosing::{Taken, allocate};
-use crate::paying::pay_all;
+use crate::choosing::Tables;
+use crate::outcome::Shares;
+use crate::sums::words_of;
 use crate::welfare::fill_tables;
 use bundles::Row;
-
-// By bidder what is taken of its bids, and what it pays.
-#[derive(Clone, Copy)]
-pub struct Shares {
-    pub taken: [Taken; 32],
-    pub paid: [u64; 32],
-}
 
 // Shares out the pieces of a set among the bidders, by tables in lent words. Bids that can't matter may be left out of `kept`, which the tables are made
 // of; who gets what still goes by the first bid in order.
@@ -29,8 +23,20 @@ pub fn share_out(
     requires { (RoomToPay (length tables.old) pieces (length rows.now)) × ((whole < 2 ^ pieces) × (AllKept (all_held kept.now) (all_held rows.now))) }
     ensures { Shared (all_held rows.now) (bits pieces whole) result }
 {
-    fill_tables(tables, pieces, kept);
-    let taken = allocate(tables, pieces, whole, rows);
-    let paid = pay_all(tables, pieces, whole, kept, &taken);
-    Shares { taken, paid }
+    let end = (rows.len() + 1) * words_of(pieces);
+    let (words, spare) = tables.split_at_mut(end);
+    fill_tables(words, pieces, kept);
+    let all = Tables {
+        words,
+        pieces,
+        whole,
+        rows,
+    };
+    let of_kept = Tables {
+        words,
+        pieces,
+        whole,
+        rows: kept,
+    };
+    of_kept.pay_all(spare, all.allocate())
 }

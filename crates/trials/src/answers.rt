@@ -1,5 +1,5 @@
 // Answers as bytes: each answer both ways, cut off, too long, of no kind, and with too many bids.
-use bundles::{Bid, Bundle, Row};
+use bundles::{Bid, Bundle, Full, Row};
 use ledger::Limits;
 use session::{call, open};
 use std::process::Abort;
@@ -28,9 +28,13 @@ fn written(rt: &impl Abort, answer: Answer, bytes: &[u8]) -> Result<(), Fail> {
 }
 
 fn place(bytes: &[u8]) -> Option<usize> {
-    match read_answer(bytes) {
-        Ok(_) => None,
-        Err(place) => Some(place),
+    read_answer(bytes).err()
+}
+
+// No beginning is an answer. The loop is over lengths, and no index of the bytes.
+fn only_whole(rt: &impl Abort, bytes: &[u8]) {
+    for n in 0..bytes.len() {
+        assert_eq!(rt; place(&bytes[..n]), Some(n));
     }
 }
 
@@ -57,16 +61,18 @@ fn each_answer_is_its_bytes(rt: HostRuntime) -> Result<(), Fail> {
     let mut row = Row::new();
     written(&rt, Answer::Bids(row), &[3, 0])?;
     assert!(rt;
-        row.push(Bid {
+        row.try_push(Bid {
             on: Bundle { mask: 3 },
             price: 130,
         })
+        .is_ok()
     );
     assert!(rt;
-        row.push(Bid {
+        row.try_push(Bid {
             on: Bundle { mask: 1 },
             price: 60,
         })
+        .is_ok()
     );
     written(&rt, Answer::Bids(row), &BIDS)
 }
@@ -79,10 +85,10 @@ fn a_row_takes_sixteen_bids(rt: HostRuntime) -> Result<(), Fail> {
     };
     let mut row = Row::new();
     for _ in 0..16 {
-        assert!(rt; row.push(bid));
+        assert!(rt; row.try_push(bid).is_ok());
     }
-    assert!(rt; !row.push(bid));
-    assert_eq!(rt; row.bids().len(), 16);
+    assert!(rt; row.try_push(bid) == Err(Full));
+    assert_eq!(rt; row.as_slice().len(), 16);
     let mut bytes = [255u8; 98];
     bytes[0] = 3;
     bytes[1] = 16;
@@ -91,12 +97,8 @@ fn a_row_takes_sixteen_bids(rt: HostRuntime) -> Result<(), Fail> {
 
 #[test]
 fn bytes_that_are_no_answer(rt: HostRuntime) {
-    for n in 0..REFUSED.len() {
-        assert_eq!(rt; place(&REFUSED[0..n]), Some(n));
-    }
-    for n in 0..BIDS.len() {
-        assert_eq!(rt; place(&BIDS[0..n]), Some(n));
-    }
+    only_whole(&rt, &REFUSED);
+    only_whole(&rt, &BIDS);
     assert_eq!(rt;
         place(&[1, 0, 0, 0, 0, 0, 0, 0, 0, 0]),
         Some(9),

@@ -3,7 +3,7 @@ use bundles::{Bid, Bundle};
 use std::alloc::Global;
 use std::process::Abort;
 use std::test::Fail;
-use wire::{Bids, Call, put_bid, read_call, write_call};
+use wire::{Bids, Call, InBytes, Kind, UnknownKind, read_call, write_call};
 
 // The bytes of each call, the one with bids last.
 const OPEN: [u8; 9] = [0, 2, 0, 0, 0, 10, 1, 0, 0];
@@ -46,16 +46,13 @@ fn both_ways(rt: &impl Abort, bytes: &[u8]) -> Result<(), Fail> {
 
 // The place at which bytes cease to be a call.
 fn place(bytes: &[u8]) -> Option<usize> {
-    match read_call(bytes) {
-        Ok(_) => None,
-        Err(place) => Some(place),
-    }
+    read_call(bytes).err()
 }
 
-// No beginning is a call, and one byte more is one too many.
+// No beginning is a call, and one byte more is one too many. The loop is over lengths, and no index of the bytes.
 fn only_whole(rt: &impl Abort, heap: Global, bytes: &[u8]) -> Result<(), Fail> {
     for n in 0..bytes.len() {
-        assert_eq!(rt; place(&bytes[0..n]), Some(n));
+        assert_eq!(rt; place(&bytes[..n]), Some(n));
     }
     let mut longer = bytes.to_vec(heap)?;
     longer.push(0)?;
@@ -130,7 +127,7 @@ fn unknown_calls_cease_at_their_first_byte(rt: HostRuntime) {
     assert_eq!(rt; place(&[]), Some(0));
 }
 
-// A call with so many bids, bid i on the set i + 1 for the price 1000 + i.
+// A call with so many bids, bid i on the set i + 1 for the price 1000 + i: numbers that the bids are made of, so a loop over them.
 fn with_bids(count: u8, bytes: &mut [u8; 1540]) {
     bytes[0] = 1;
     bytes[9] = count;
@@ -141,7 +138,7 @@ fn with_bids(count: u8, bytes: &mut [u8; 1540]) {
             },
             price: 1000 + u32::from(i),
         };
-        put_bid(bytes, 10 + 6 * usize::from(i), bid);
+        bid.write(bytes, 10 + 6 * usize::from(i));
     }
 }
 
@@ -162,6 +159,7 @@ fn carries(rt: &impl Abort, count: u8) -> Result<(), Fail> {
     };
     assert_eq!(rt; bids.len(), usize::from(count));
     assert!(rt; bids.get(usize::from(count)).is_none());
+    // By place: it is `get` that is tried.
     for i in 0..count {
         let bid = bids.get(usize::from(i)).ok_or("a bid is missing")?;
         assert_eq!(rt; bid.on.mask, u16::from(i) + 1);
@@ -186,8 +184,30 @@ fn finds_no_room(rt: &impl Abort, call: Call<'_>) -> Result<(), Fail> {
 
 #[test]
 fn a_call_is_not_written_where_there_is_no_room(rt: HostRuntime) -> Result<(), Fail> {
-    match read_call(&LOT) {
-        Ok(call) => finds_no_room(&rt, call),
-        Err(_) => Err(Fail::new("no call")),
+    let call = read_call(&LOT).map_err(|_| Fail::new("no call"))?;
+    finds_no_room(&rt, call)
+}
+
+#[test]
+fn each_kind_is_its_number(rt: HostRuntime) {
+    for number in 0..=6u8 {
+        let kind = Kind::try_from(number);
+        assert!(rt; kind.is_ok_and(|kind| u8::from(kind) == number));
     }
+    assert!(rt; Kind::try_from(7) == Err(UnknownKind(7)));
+}
+
+#[test]
+fn bids_are_gone_through_in_their_order(rt: HostRuntime) -> Result<(), Fail> {
+    let mut bytes = [0u8; 1540];
+    with_bids(3, &mut bytes);
+    let bids = Bids {
+        bytes: &bytes[10..28],
+    };
+    let mut prices = Vec::new(rt.alloc());
+    for bid in bids.iter() {
+        prices.push(bid.price)?;
+    }
+    assert!(rt; prices.as_slice() == [1000, 1001, 1002].as_slice());
+    Ok(())
 }

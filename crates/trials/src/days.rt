@@ -1,6 +1,6 @@
 // A list of calls as records in one row of bytes, done from opening to the last answer.
-use daybook::run_house;
-use ledger::Limits;
+use daybook::{Stopped, run_house};
+use ledger::{Limits, Trouble};
 use std::test::Fail;
 
 const LIMITS: Limits = Limits {
@@ -44,15 +44,13 @@ fn a_list_of_calls_is_answered_call_by_call(rt: HostRuntime) -> Result<(), Fail>
     expected.extend_from_slice(&NO_CALL)?;
     expected.extend_from_slice(&TOO_SHORT)?;
     let mut answers = Vec::new(heap);
-    assert_eq!(rt;
-        run_house(
-            LIMITS,
-            memory.as_mut_slice(),
-            requests.as_slice(),
-            &mut answers,
-        )?,
-        true
+    let done = run_house(
+        LIMITS,
+        memory.as_mut_slice(),
+        requests.as_slice(),
+        &mut answers,
     );
+    assert!(rt; done == Ok(()));
     assert!(rt; answers.as_slice() == expected.as_slice());
     Ok(())
 }
@@ -61,7 +59,8 @@ fn a_list_of_calls_is_answered_call_by_call(rt: HostRuntime) -> Result<(), Fail>
 fn no_house_is_run_in_too_little_memory(rt: HostRuntime) -> Result<(), Fail> {
     let mut memory = [7u32; 16];
     let mut answers = Vec::new(rt.alloc());
-    assert_eq!(rt; run_house(LIMITS, &mut memory, &[], &mut answers)?, false);
+    let done = run_house(LIMITS, &mut memory, &[], &mut answers);
+    assert!(rt; done == Err(Stopped::NoHouse(Trouble::ShortMemory)));
     assert!(rt; answers.is_empty());
     Ok(())
 }

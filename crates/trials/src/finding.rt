@@ -1,41 +1,21 @@
 // Lots found in the order in which they close, against a sort: none, all, and many that close in one tick.
+use crate::house::{house, takes};
 use ledger::{Closing, Limits, closed_by_now, find_lot, find_place, next_closing};
-use reading::read_line;
-use session::{answer, open};
 use std::alloc::Global;
 use std::process::Abort;
 use std::test::Fail;
-use wire::Answer;
 
-// A lot by its closing, in the order of the tick and then the number.
+const LIMITS: Limits = Limits {
+    lots: 64,
+    bidders: 1,
+    each: 1,
+};
+
+// A lot by its closing, in an order of the test's own: that of `Closing` is what is tested.
 #[derive(Clone, Copy, PartialEq, Eq, PartialOrd, Ord)]
 struct Pair {
     until: u32,
     number: u32,
-}
-
-fn house(heap: Global) -> Result<Vec<u32>, Fail> {
-    let mut memory = vec![in heap; 7u32; 1000000]?;
-    let limits = Limits {
-        lots: 64,
-        bidders: 1,
-        each: 1,
-    };
-    if open(limits, memory.as_mut_slice()).is_err() {
-        return Err(Fail::new("no house"));
-    }
-    Ok(memory)
-}
-
-fn takes(rt: &impl Abort, memory: &mut [u32], line: &[u8]) -> Result<(), Fail> {
-    let mut bids = [0u8; 1530];
-    match answer(memory, read_line(line, &mut bids)) {
-        Answer::Refused { refusal, place: _ } => {
-            assert_eq!(rt; refusal.number(), 0, "is taken");
-            Ok(())
-        },
-        _ => Ok(()),
-    }
 }
 
 // Sixty-four lots, four of which close in each of sixteen ticks, sorted by when they close.
@@ -54,7 +34,7 @@ fn lots(rt: &impl Abort, heap: Global, memory: &mut [u32]) -> Result<Vec<Pair>, 
 #[test]
 fn lots_are_gone_through_as_they_close(rt: HostRuntime) -> Result<(), Fail> {
     let heap = rt.alloc();
-    let mut memory = house(heap)?;
+    let mut memory = house(heap, LIMITS)?;
     assert!(rt; next_closing(memory.as_slice(), None).is_none(), "no lots");
     let sorted = lots(&rt, heap, memory.as_mut_slice())?;
     let mut at: Option<Closing> = None;
@@ -74,7 +54,7 @@ fn lots_are_gone_through_as_they_close(rt: HostRuntime) -> Result<(), Fail> {
 #[test]
 fn lots_that_are_closed_by_now_are_counted(rt: HostRuntime) -> Result<(), Fail> {
     let heap = rt.alloc();
-    let mut memory = house(heap)?;
+    let mut memory = house(heap, LIMITS)?;
     let _sorted = lots(&rt, heap, memory.as_mut_slice())?;
     assert_eq!(rt; closed_by_now(memory.as_slice()), 0);
     takes(&rt, memory.as_mut_slice(), b"ticks 1")?;
@@ -89,7 +69,7 @@ fn lots_that_are_closed_by_now_are_counted(rt: HostRuntime) -> Result<(), Fail> 
 #[test]
 fn a_lot_is_found_by_its_number(rt: HostRuntime) -> Result<(), Fail> {
     let heap = rt.alloc();
-    let mut memory = house(heap)?;
+    let mut memory = house(heap, LIMITS)?;
     assert!(rt; find_lot(memory.as_slice(), 0).is_none());
     takes(&rt, memory.as_mut_slice(), b"open 3 9")?;
     let lot = find_lot(memory.as_slice(), 0).ok_or("no lot")?;

@@ -10,6 +10,8 @@ mod days;
 #[cfg(test)]
 mod finding;
 #[cfg(test)]
+mod house;
+#[cfg(test)]
 mod lines;
 #[cfg(test)]
 mod memory;

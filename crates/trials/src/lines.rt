@@ -1,7 +1,7 @@
 // Lines: each call from its line, blanks and digits of every kind, places, the most bids, and each answer as its line.
 use bundles::{Bid, Bundle, Row};
 use printing::Line;
-use reading::{is_silent, read_line};
+use reading::{BidBuffer, is_silent, read_line};
 use std::alloc::Global;
 use std::process::Abort;
 use std::test::Fail;
@@ -9,10 +9,8 @@ use wire::{Answer, Refusal, write_call};
 
 // The line is the call that these bytes are.
 fn reads(rt: &impl Abort, line: &[u8], bytes: &[u8]) -> Result<(), Fail> {
-    let mut bids = [0u8; 1530];
-    let Ok(call) = read_line(line, &mut bids) else {
-        return Err(Fail::new("can't be read"));
-    };
+    let mut bids = BidBuffer::new();
+    let call = read_line(line, &mut bids).map_err(|_| Fail::new("can't be read"))?;
     let mut out = [0u8; 1540];
     let size = write_call(call, &mut out).ok_or("no room")?;
     assert!(rt; size <= 1540);
@@ -22,11 +20,8 @@ fn reads(rt: &impl Abort, line: &[u8], bytes: &[u8]) -> Result<(), Fail> {
 
 // The place at which a line ceases to be a call.
 fn place(line: &[u8]) -> Option<usize> {
-    let mut bids = [0u8; 1530];
-    match read_line(line, &mut bids) {
-        Ok(_) => None,
-        Err(place) => Some(place),
-    }
+    let mut bids = BidBuffer::new();
+    read_line(line, &mut bids).err()
 }
 
 #[test]
@@ -176,17 +171,19 @@ fn each_answer_is_its_line(rt: HostRuntime) -> Result<(), Fail> {
     let mut row = Row::new();
     shown(&rt, heap, Answer::Bids(row), "3 0:")?;
     assert!(rt;
-        row.push(Bid {
+        row.try_push(Bid {
             on: Bundle { mask: 3 },
             price: 130,
         })
+        .is_ok()
     );
     shown(&rt, heap, Answer::Bids(row), "3 1: 01 130")?;
     assert!(rt;
-        row.push(Bid {
+        row.try_push(Bid {
             on: Bundle { mask: 64513 },
             price: 60,
         })
+        .is_ok()
     );
     shown(&rt, heap, Answer::Bids(row), "3 2: 01 130, 0abcdef 60")
 }

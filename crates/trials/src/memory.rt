@@ -6,12 +6,7 @@ use std::test::Fail;
 
 // Are all words this?
 fn all_are(words: &[u32], word: u32) -> bool {
-    for w in words {
-        if *w != word {
-            return false;
-        }
-    }
-    true
+    words.iter().all(|w| *w == word)
 }
 
 // One word short: nothing changes. Just right and longer: a new house, and what lies behind stays.

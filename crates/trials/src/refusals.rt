@@ -1,40 +1,21 @@
 // Refusals: each alone, each with its neighbour in the list (the first is given), and each bound at its edge.
+use crate::house::{asked, house, takes};
 use ledger::Limits;
-use reading::read_line;
-use session::{answer, open};
 use std::alloc::Global;
 use std::process::Abort;
 use std::test::Fail;
 use wire::Answer;
 
 // A new house for so many lots, bidders and bids of each.
-fn house(heap: Global, lots: u32, bidders: u32, each: u32) -> Result<Vec<u32>, Fail> {
-    let mut memory = vec![in heap; 7u32; 1000000]?;
-    let limits = Limits {
-        lots,
-        bidders,
-        each,
-    };
-    if open(limits, memory.as_mut_slice()).is_err() {
-        return Err(Fail::new("no house"));
-    }
-    Ok(memory)
-}
-
-// What the house answers to a line.
-fn asked(memory: &mut [u32], line: &[u8]) -> Answer {
-    let mut bids = [0u8; 1530];
-    answer(memory, read_line(line, &mut bids))
-}
-
-fn takes(rt: &impl Abort, memory: &mut [u32], line: &[u8]) -> Result<(), Fail> {
-    match asked(memory, line) {
-        Answer::Refused { refusal, place: _ } => {
-            assert_eq!(rt; refusal.number(), 0, "is taken");
-            Ok(())
+fn house_for(heap: Global, lots: u32, bidders: u32, each: u32) -> Result<Vec<u32>, Fail> {
+    house(
+        heap,
+        Limits {
+            lots,
+            bidders,
+            each,
         },
-        _ => Ok(()),
-    }
+    )
 }
 
 fn refuses(
@@ -46,7 +27,7 @@ fn refuses(
 ) -> Result<(), Fail> {
     match asked(memory, line) {
         Answer::Refused { refusal, place: at } => {
-            assert_eq!(rt; refusal.number(), number);
+            assert_eq!(rt; u64::from(refusal), number);
             assert_eq!(rt; at, place);
             Ok(())
         }
@@ -56,7 +37,7 @@ fn refuses(
 
 #[test]
 fn each_refusal_alone(rt: HostRuntime) -> Result<(), Fail> {
-    let mut memory = house(rt.alloc(), 1, 2, 1)?;
+    let mut memory = house_for(rt.alloc(), 1, 2, 1)?;
     let m = memory.as_mut_slice();
     refuses(&rt, m, b"lox", 1, 2)?;
     refuses(&rt, m, b"open 0 5", 2, 0)?;
@@ -81,7 +62,7 @@ fn memory_that_is_no_house_refuses_by_three(rt: HostRuntime) -> Result<(), Fail>
 
 #[test]
 fn of_two_refusals_the_first(rt: HostRuntime) -> Result<(), Fail> {
-    let mut memory = house(rt.alloc(), 1, 2, 1)?;
+    let mut memory = house_for(rt.alloc(), 1, 2, 1)?;
     let m = memory.as_mut_slice();
     // unreadable, and no pieces
     refuses(&rt, m, b"open 0 x", 1, 7)?;
@@ -104,7 +85,7 @@ fn of_two_refusals_the_first(rt: HostRuntime) -> Result<(), Fail> {
 
 #[test]
 fn fields_at_their_edges(rt: HostRuntime) -> Result<(), Fail> {
-    let mut memory = house(rt.alloc(), 3, 2, 2)?;
+    let mut memory = house_for(rt.alloc(), 3, 2, 2)?;
     let m = memory.as_mut_slice();
     refuses(&rt, m, b"open 17 9", 2, 0)?;
     refuses(&rt, m, b"open 1 16777216", 2, 0)?;
@@ -125,7 +106,7 @@ fn fields_at_their_edges(rt: HostRuntime) -> Result<(), Fail> {
 
 #[test]
 fn a_lot_closes_in_its_tick(rt: HostRuntime) -> Result<(), Fail> {
-    let mut memory = house(rt.alloc(), 1, 1, 1)?;
+    let mut memory = house_for(rt.alloc(), 1, 1, 1)?;
     let m = memory.as_mut_slice();
     takes(&rt, m, b"open 1 3")?;
     takes(&rt, m, b"ticks 2")?;
@@ -137,7 +118,7 @@ fn a_lot_closes_in_its_tick(rt: HostRuntime) -> Result<(), Fail> {
 
 #[test]
 fn time_ends_below_2_to_the_24(rt: HostRuntime) -> Result<(), Fail> {
-    let mut memory = house(rt.alloc(), 1, 1, 1)?;
+    let mut memory = house_for(rt.alloc(), 1, 1, 1)?;
     let m = memory.as_mut_slice();
     for _ in 0..255 {
         takes(&rt, m, b"ticks 65536")?;
@@ -149,7 +130,7 @@ fn time_ends_below_2_to_the_24(rt: HostRuntime) -> Result<(), Fail> {
 
 #[test]
 fn a_refused_call_changes_no_word(rt: HostRuntime) -> Result<(), Fail> {
-    let mut memory = house(rt.alloc(), 1, 1, 2)?;
+    let mut memory = house_for(rt.alloc(), 1, 1, 2)?;
     let m = memory.as_mut_slice();
     takes(&rt, m, b"open 2 5")?;
     takes(&rt, m, b"bid 0 0: 0 5, 1 6")?;

@@ -1,24 +1,16 @@
 // Bids in the place of others: long by short, short by long, by none; and no trace of what was there.
+use crate::house::{asked, house};
 use ledger::Limits;
 use printing::Line;
-use reading::read_line;
-use session::{answer, open};
 use std::alloc::Global;
 use std::process::Abort;
 use std::test::Fail;
 
-fn house(heap: Global) -> Result<Vec<u32>, Fail> {
-    let mut memory = vec![in heap; 7u32; 1000000]?;
-    let limits = Limits {
-        lots: 2,
-        bidders: 2,
-        each: 3,
-    };
-    if open(limits, memory.as_mut_slice()).is_err() {
-        return Err(Fail::new("no house"));
-    }
-    Ok(memory)
-}
+const LIMITS: Limits = Limits {
+    lots: 2,
+    bidders: 2,
+    each: 3,
+};
 
 // The line that the house answers a line by.
 fn says(
@@ -28,8 +20,7 @@ fn says(
     line: &[u8],
     text: &str,
 ) -> Result<(), Fail> {
-    let mut bids = [0u8; 1530];
-    let said = Line(answer(memory, read_line(line, &mut bids)));
+    let said = Line(asked(memory, line));
     let written = format!(in heap; "{said}")?;
     assert!(rt; written.as_str() == text);
     Ok(())
@@ -38,7 +29,7 @@ fn says(
 #[test]
 fn the_last_bids_count(rt: HostRuntime) -> Result<(), Fail> {
     let heap = rt.alloc();
-    let mut memory = house(heap)?;
+    let mut memory = house(heap, LIMITS)?;
     let m = memory.as_mut_slice();
     says(&rt, heap, m, b"open 3 9", "1 0")?;
     says(&rt, heap, m, b"open 2 9", "1 1")?;
@@ -56,8 +47,8 @@ fn the_last_bids_count(rt: HostRuntime) -> Result<(), Fail> {
 #[test]
 fn bidding_again_leaves_no_trace(rt: HostRuntime) -> Result<(), Fail> {
     let heap = rt.alloc();
-    let mut once = house(heap)?;
-    let mut twice = house(heap)?;
+    let mut once = house(heap, LIMITS)?;
+    let mut twice = house(heap, LIMITS)?;
     says(&rt, heap, once.as_mut_slice(), b"open 3 9", "1 0")?;
     says(&rt, heap, twice.as_mut_slice(), b"open 3 9", "1 0")?;
     says(

@@ -1,5 +1,5 @@
 // Sets of pieces, at the edges.
-use bundles::Bundle;
+use bundles::{Bundle, Full, UpTo};
 
 #[test]
 fn a_set_fits_a_lot_that_has_its_highest_piece(rt: HostRuntime) {
@@ -26,4 +26,15 @@ fn sets_are_joined_and_taken_away(rt: HostRuntime) {
     assert!(rt; !left.has(2));
     assert!(rt; !left.has(16));
     assert!(rt; Bundle { mask: 0 }.is_empty());
+}
+
+#[test]
+fn a_list_takes_so_many_and_not_one_more(rt: HostRuntime) {
+    let mut list: UpTo<u8, 2> = UpTo::new();
+    list.push(7);
+    assert!(rt; list.try_push(8).is_ok());
+    assert!(rt; list.try_push(9) == Err(Full));
+    assert!(rt; list.as_slice() == [7, 8].as_slice());
+    let none: UpTo<u8, 2> = UpTo::default();
+    assert!(rt; none.as_slice().is_empty());
 }

@@ -1,6 +1,6 @@
 -- Bids read from bytes and written as bytes, six bytes each. Assumes nothing.
-use Rattle.std.proofs.Common.{◌≡◌, ℕ, zero, suc, ◌+◌, ◌*◌, ◌/◌, ◌^◌, ◌<◌, ◌≤◌, Bool, true, cond, ltb, List, [], ◌∷◌, ◌++◌, length, get_or, take, drop, sym, refl, ap, ◌∙◌, subst, ap₂, suc-add, zero-add, add-one, arith, length-drop}
-use Rattle.std.proofs.lemmas.List.{append_assoc, drop-append-le, drop_at, drop-drop, length-map, length-take-le, map_push, take-append-drop}
+use Rattle.std.proofs.Common.{◌≡◌, ℕ, zero, suc, ◌+◌, ◌-◌, ◌*◌, ◌/◌, ◌^◌, ◌<◌, ◌≤◌, Bool, true, cond, ltb, List, [], ◌∷◌, ◌++◌, length, get_or, take, drop, sym, refl, ap, ◌∙◌, subst, ap₂, suc-add, zero-add, add-one, arith, length-drop}
+use Rattle.std.proofs.lemmas.List.{append_assoc, drop-append-le, drop_at, drop-drop, length-map, length-take-le, map_push, take-append-drop, take_rest}
 use Rattle.std.proofs.lemmas.Bool.{cond-true, lt-ltb, ltb-true, eqb-true, and_parts}
 use Rattle.auction.specs.Bids.{Bid, Bids, no_bid}
 use Rattle.bundles.specs.Masks.{bits, mask_of}
@@ -8,7 +8,8 @@ use Rattle.bundles.specs.Offers.{meant, all_meant}
 use Rattle.bundles.specs.declared.Bid.{Bid as Value}
 use Rattle.auction.specs.Promise.{fields_of}
 use Rattle.bundles.proofs.Sets.{mask_bits, bits_mask, mask_below}
-use Rattle.wire.proofs.Spelling.{length-spelled, number_below, number-front, spelled-number, number_spelled, drop_bytes}
+use Rattle.wire.specs.Sizes.{length-spelled}
+use Rattle.wire.proofs.Spelling.{number_below, number-front, spelled-number, number_spelled, drop_bytes}
 use Rattle.wire.specs.Bytes.{AllBytes, spelled, number_in, bid_in, bids_in, bids_bytes}
 
 pub length-bids_in : (n : ℕ) (bs : List ℕ) → length (bids_in n bs) ≡ n
@@ -38,6 +39,19 @@ bids_in-more n bs = rw add-one (go n bs)
     go (suc n) bs =
         let next : 6 + 6 * n ≡ 6 * suc n = omega arith in
         ap (λ l. bid_in bs ∷ l) (go n (drop 6 bs) ∙ ap (λ l. bids_in n (drop 6 bs) ++ (bid_in l ∷ [])) (drop-drop (6 * n) 6 bs ∙ ap (λ k. drop k bs) next))
+
+-- gone through one by one: none is left, or the first and those behind it
+pub left-none : (bs : List ℕ) → length bs < 6 → bids_in (length bs / 6) bs ≡ []
+unfolding bids_in
+left-none bs h = let none : length bs / 6 ≡ 0 = omega arith in rw none
+
+left-more : (bs : List ℕ) → 6 ≤ length bs → bids_in (length bs / 6) bs ≡ bid_in bs ∷ bids_in (length (drop 6 bs) / 6) (drop 6 bs)
+unfolding bids_in
+left-more bs h =
+    let many : length bs / 6 ≡ suc (length (drop 6 bs) / 6) = omega (arith, length-drop 6 bs) in rw many
+
+pub left-next : (bs : List ℕ) (b : Bid) → 6 ≤ length bs → b ≡ bid_in bs → bids_in (length bs / 6) bs ≡ b ∷ bids_in (length (take (length bs - 6) (drop 6 bs)) / 6) (take (length bs - 6) (drop 6 bs))
+left-next bs b h e = rw (take_rest bs 6, e) (left-more bs h)
 
 -- a row that is full only once there are sixteen takes one bid more of the bytes
 pub row_more : (row row' : List Value) (bid : Value) (t : Bool) (i : ℕ) (bs : List ℕ) → all_meant row ≡ bids_in i (drop 2 bs) → i < 16 → meant bid ≡ bid_in (drop (2 + 6 * i) bs)

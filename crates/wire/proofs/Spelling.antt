@@ -3,11 +3,6 @@ use Rattle.std.proofs.Common.{◌≡◌, ℕ, zero, suc, ◌+◌, ◌*◌, ◌/�
 use Rattle.std.proofs.lemmas.List.{get_or-drop}
 use Rattle.wire.specs.Bytes.{AllBytes, spelled, number_in}
 
-pub length-spelled : (k n : ℕ) → length (spelled k n) ≡ k
-unfolding spelled
-length-spelled zero n = refl
-length-spelled (suc k) n = ap suc (length-spelled k (n / 256))
-
 number-none : (k : ℕ) → number_in k [] ≡ 0
 unfolding number_in
 number-none zero = refl

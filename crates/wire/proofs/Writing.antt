@@ -1,13 +1,15 @@
 -- Bytes put into a row of bytes, one after the other. Assumes nothing.
 use Rattle.std.proofs.Common.{◌≡◌, ℕ, suc, ◌+◌, ◌*◌, ◌/◌, ◌%◌, ◌<◌, ◌≤◌, List, [], ◌∷◌, ◌++◌, length, get_or, take, drop, set, sym, refl, ap, ◌∙◌, add-zero, arith}
 use borrow.Rule.Slice.PartMut.{put_mid}
-use Rattle.std.proofs.lemmas.List.{append_assoc, append-nil, drop-drop, take_at, drop_at, take-append-drop, length-append, length-take-le, length-drop, set_split, map_more, length-map}
+use Rattle.std.proofs.lemmas.List.{append_assoc, append-nil, drop-drop, take_at, drop_at, take-append-drop, length-append, length-take-le, length-drop, set_split, take_more}
+use Rattle.std.proofs.lemmas.Grind.{flat_map-append}
+use Rattle.std.proofs.Math.Nat.{mul-le-mul_left, mul-suc}
 use Rattle.auction.specs.Bids.{Bids}
 use Rattle.bundles.specs.Offers.{meant, all_meant}
 use Rattle.bundles.specs.declared.Bid.{Bid as Value}
 use Rattle.bundles.proofs.Sets.{mask_bits}
-use Rattle.wire.proofs.Spelling.{length-spelled}
-use Rattle.wire.specs.Bytes.{Written, spelled, bids_bytes, put}
+use Rattle.wire.specs.Sizes.{length-spelled}
+use Rattle.wire.specs.Bytes.{Written, all_bytes, spelled, bids_bytes, put}
 
 -- the bytes of a number as `to_le_bytes` gives them
 pub spelled_2 : (n : ℕ) → n % 256 ∷ n / 256 % 256 ∷ [] ≡ spelled 2 n
@@ -35,6 +37,10 @@ spelled_8 n =
 pub put_part : (at k : ℕ) (xs ys bs : List ℕ) → ys ≡ bs → k ≡ length bs → put_mid at k xs ys ≡ put xs at bs
 unfolding put
 put_part at k xs ys bs e n = rw (e, n, drop-drop (length bs) at xs)
+
+-- a number of k bytes is written over a part of the row
+pub put_number : (at k n m : ℕ) (xs ys bs : List ℕ) → ys ≡ bs → bs ≡ spelled k n → m ≡ k → put_mid at m xs ys ≡ put xs at (spelled k n)
+put_number at k n m xs ys bs e s size = put_part at m xs ys (spelled k n) (e ∙ s) (size ∙ sym (length-spelled k n))
 
 pub put-none : (xs : List ℕ) (at : ℕ) → put xs at [] ≡ xs
 unfolding put
@@ -81,26 +87,31 @@ pub bid_bytes : (b : Value) → b.on.mask < 65536 → bids_bytes (meant b ∷ []
 unfolding bids_bytes
 bid_bytes b h = rw (mask_bits 16 b.on.mask h, append-nil)
 
-pub put-bids-more : (xs ys : List ℕ) (at place i : ℕ) (bids : List Value) (d : Value) → i < length bids → at + 6 * length bids ≤ length xs → place ≡ at + 6 * i
-    → ys ≡ put xs at (bids_bytes (all_meant (take i bids))) → put ys place (bids_bytes (meant (get_or bids i d) ∷ [])) ≡ put xs at (bids_bytes (all_meant (take (i + 1) bids)))
-put-bids-more xs ys at place i bids d h room e was =
-    let some : List Value = take i bids in
-    let size : length (bids_bytes (all_meant some)) ≡ 6 * i =
-    length-bids_bytes (all_meant some) ∙ ap (λ n. 6 * n) (length-map some meant ∙ length-take-le i bids (omega arith)) in
-    rw was (put-put xs at place (bids_bytes (all_meant some)) _ (omega arith) (omega arith)
-    ∙ ap (put xs at) (sym (bids_bytes-append (all_meant some) _) ∙ ap bids_bytes (sym (map_more meant bids i d h))))
+-- values of so many bytes each, one after the other
+module _ {A : Type 0} (f : A → List ℕ) (size : ℕ) (as_many : (x : A) → length (f x) ≡ size) where
+  pub length-all_bytes : (xs : List A) → length (all_bytes f xs) ≡ size * length xs
+  length-all_bytes [] = omega arith
+  length-all_bytes (x ∷ xs) = omega (arith, length-append (f x) (all_bytes f xs), as_many x, length-all_bytes xs, mul-suc size (length xs))
 
--- a kind, and one number or two of k bytes each behind it
-module _ (k : ℕ) (out one : List ℕ) (kind a : ℕ) (first : one ≡ put (set out 0 kind) 1 (spelled k a)) where
-  pub single_written : (n : ℕ) → n ≡ suc k → n ≤ length out → Written out one n (kind ∷ spelled k a)
-  single_written n e room = record {
-    bytes = first ∙ put-behind out 0 1 kind (spelled k a) (omega arith) refl;
-    len = omega (arith, length-spelled k a);
+  pub put-all-more : (out now : List ℕ) (at place i : ℕ) (xs : List A) (x : A) → i < length xs → at + size * length xs ≤ length out → place ≡ at + size * i → x ≡ get_or xs i x
+      → now ≡ put out at (all_bytes f (take i xs)) → put now place (f x) ≡ put out at (all_bytes f (take (i + 1) xs))
+  put-all-more out now at place i xs x h room e is was =
+      let some : length (all_bytes f (take i xs)) ≡ size * i = length-all_bytes (take i xs) ∙ ap (λ n. size * n) (length-take-le i xs (omega arith)) in
+      let there : size * i ≤ size * length xs = mul-le-mul_left size (omega arith) in
+      let more : take (i + 1) xs ≡ take i xs ++ x ∷ [] = take_more xs i x h ∙ ap (λ y. take i xs ++ y ∷ []) (sym is) in
+      rw was (put-put out at place (all_bytes f (take i xs)) (f x) (omega arith) (omega arith)
+      ∙ ap (put out at) (sym (flat_map-append f (take i xs) (x ∷ []) ∙ ap (λ l. all_bytes f (take i xs) ++ l) (append-nil (f x))) ∙ ap (all_bytes f) (sym more)))
+
+  -- a byte, and the values behind it
+  pub written-behind : (out two : List ℕ) (kind byte n : ℕ) (xs : List A) → byte ≡ kind → n ≡ 1 + size * length xs → n ≤ length out → two ≡ put (set out 0 byte) 1 (all_bytes f xs)
+      → Written out two n (kind ∷ all_bytes f xs)
+  written-behind out two kind byte n xs same e room is = record {
+    bytes = is ∙ put-behind out 0 1 byte (all_bytes f xs) (omega arith) refl ∙ ap (λ k. put out 0 (k ∷ all_bytes f xs)) same;
+    len = omega (arith, length-all_bytes xs);
   }
 
-  pub pair_written : (two : List ℕ) (b next n : ℕ) → next ≡ suc k → n ≡ suc (k + k) → n ≤ length out → two ≡ put one next (spelled k b) → Written out two n (kind ∷ (spelled k a ++ spelled k b))
-  pair_written two b next n e m room second = record {
-    bytes = second ∙ ap (λ xs. put xs next (spelled k b)) (single_written (suc k) refl (omega arith)).bytes
-        ∙ put-put out 0 next (kind ∷ spelled k a) (spelled k b) (omega (arith, length-spelled k a)) (omega arith);
-    len = omega (arith, length-append (spelled k a) (spelled k b), length-spelled k a, length-spelled k b);
-  }
+-- the bytes of bids are those of each, one after the other
+pub bids_bytes-all : (bs : List Value) → all_bytes (λ b. bids_bytes (meant b ∷ [])) bs ≡ bids_bytes (all_meant bs)
+unfolding bids_bytes
+bids_bytes-all [] = refl
+bids_bytes-all (b ∷ bs) = rw (bids_bytes-all bs, append_assoc, append-nil)

@@ -1,5 +1,5 @@
 -- Numbers and bids as bytes. Assumes nothing: these are definitions.
-use Rattle.std.specs.Prelude.{◌≡◌, ℕ, zero, suc, ◌+◌, ◌*◌, ◌/◌, ◌%◌, ◌<◌, List, [], ◌∷◌, ◌++◌, length, take, drop, Option, MatchOption, slice_index}
+use Rattle.std.specs.Prelude.{◌≡◌, ℕ, zero, suc, ◌+◌, ◌*◌, ◌/◌, ◌%◌, ◌<◌, List, [], ◌∷◌, ◌++◌, length, take, drop, flat_map, Option, MatchOption, slice_index}
 use Rattle.auction.specs.Bids.{Bid, Bids}
 use Rattle.bundles.specs.Masks.{bits, mask_of}
 
@@ -29,6 +29,10 @@ bid_in bs = record { on = bits 16 (number_in 2 bs); price = number_in 4 (drop 2 
 unfoldable pub bids_in : ℕ → List ℕ → Bids
 bids_in zero bs = []
 bids_in (suc n) bs = bid_in bs ∷ bids_in n (drop 6 bs)
+
+-- the bytes of values one after the other
+abbrev pub all_bytes : {A : Type 0} → (A → List ℕ) → List A → List ℕ
+all_bytes bytes xs = flat_map bytes xs
 
 -- a row of bytes with these in it from a place on, and the others as they were
 unfoldable pub put : List ℕ → ℕ → List ℕ → List ℕ

@@ -1,11 +1,11 @@
 // The answers that a house gives.
-ghost use Rattle.std.specs.Prelude.{◌≡◌, ◌≤◌, MatchOption};
+ghost use Rattle.std.specs.Prelude.{◌≡◌, ◌≤◌, MatchResult};
 ghost use Rattle.wire.specs.Refusals.{refusal_number};
 
 use bundles::Row;
 
 // Why a call is turned away, in the order in which the checks run.
-#[derive(Clone, Copy, PartialEq, Eq)]
+#[derive(Clone, Copy, Debug, PartialEq, Eq)]
 pub enum Refusal {
     // bytes that are no call
     Unreadable,
@@ -32,13 +32,15 @@ pub enum Answer {
     Bids(Row),
 }
 
-impl Refusal {
-    pub fn number(self) -> u64
-        ensures value { result ≡ refusal_number self }
-        ensures low_bound { 1 ≤ result }
-        ensures high_bound { result ≤ 8 }
-    {
-        match self {
+// A number that no refusal has.
+#[derive(Clone, Copy, Debug, PartialEq, Eq)]
+pub struct UnknownRefusal(pub u64);
+
+impl From<Refusal> for u64 {
+    ghost from_gives = { λ f n. (n ≡ refusal_number f) × (1 ≤ n) × (n ≤ 8) };
+
+    fn from(refusal: Refusal) -> u64 {
+        match refusal {
             Refusal::Unreadable => 1,
             Refusal::OutOfRange => 2,
             Refusal::NoHouse => 3,
@@ -49,20 +51,24 @@ impl Refusal {
             Refusal::AboveLimits => 8,
         }
     }
+}
 
-    pub fn from_number(n: u64) -> Option<Refusal>
-        ensures { MatchOption result ((1 ≤ n → n ≤ 8 → ⊥)) (λ f. refusal_number f ≡ n) }
-    {
+impl TryFrom<u64> for Refusal {
+    type Error = UnknownRefusal;
+
+    ghost try_from_gives = { λ n r. MatchResult r (λ f. refusal_number f ≡ n) (λ e. (e.0 ≡ n) × (1 ≤ n → n ≤ 8 → ⊥)) };
+
+    fn try_from(n: u64) -> Result<Refusal, UnknownRefusal> {
         match n {
-            1 => Some(Refusal::Unreadable),
-            2 => Some(Refusal::OutOfRange),
-            3 => Some(Refusal::NoHouse),
-            4 => Some(Refusal::NoSuchLot),
-            5 => Some(Refusal::WrongTime),
-            6 => Some(Refusal::NotInLot),
-            7 => Some(Refusal::NotLater),
-            8 => Some(Refusal::AboveLimits),
-            _ => None,
+            1 => Ok(Refusal::Unreadable),
+            2 => Ok(Refusal::OutOfRange),
+            3 => Ok(Refusal::NoHouse),
+            4 => Ok(Refusal::NoSuchLot),
+            5 => Ok(Refusal::WrongTime),
+            6 => Ok(Refusal::NotInLot),
+            7 => Ok(Refusal::NotLater),
+            8 => Ok(Refusal::AboveLimits),
+            _ => Err(UnknownRefusal(n)),
         }
     }
 }

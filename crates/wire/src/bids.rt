@@ -3,15 +3,25 @@ ghost use Rattle.std.specs.Prelude.{◌≡◌, ◌*◌, ◌/◌, ◌%◌, ◌<�
 ghost use Rattle.auction.specs.Bids.{no_bid};
 ghost use Rattle.bundles.specs.Offers.{meant};
 ghost use Rattle.wire.specs.Bytes.{bids_in};
-ghost use Rattle.wire.specs.Offers.{offers};
+ghost use Rattle.wire.specs.Offers.{left, offers};
+ghost use Rattle.std.specs.Iterator.{YieldsFirstBy, item_count};
 
-use crate::bytes::bid_at;
-use crate::sixes::{so_many_are_read, the_rest_is_not_read};
+use crate::in_bytes::InBytes;
+use crate::sixes::{one_by_one, so_many_are_read, the_rest_is_not_read};
 use bundles::Bid;
+
+// A call carries no more.
+pub const MOST_BIDS: usize = 255;
 
 #[derive(Clone, Copy)]
 pub struct Bids<'a> {
     pub bytes: &'a [u8],
+}
+
+// The bids of a call, one by one.
+#[derive(Drop)]
+pub struct Offers<'a> {
+    rest: &'a [u8],
 }
 
 impl<'a> Bids<'a> {
@@ -21,7 +31,7 @@ impl<'a> Bids<'a> {
         ensures within { 6 * result ≤ length self.entry.bytes.now }
     {
         so_many_are_read(self.bytes);
-        (self.bytes.len() / 6).min(255)
+        (self.bytes.len() / 6).min(MOST_BIDS)
     }
 
     // Just the bytes of these bids.
@@ -40,9 +50,33 @@ impl<'a> Bids<'a> {
         ensures { MatchOption result (length (offers self.entry) ≤ i) (λ b. (i < length (offers self.entry)) × (meant b ≡ slice_index_or (offers self.entry) i no_bid)) }
     {
         so_many_are_read(self.bytes);
+        one_by_one(self.bytes);
         if i >= self.len() {
             return None;
         }
-        Some(bid_at(self.bytes, 6 * i))
+        Some(Bid::read(self.bytes, 6 * i))
+    }
+
+    pub fn iter(self) -> Offers<'a>
+        ensures { left result ≡ offers self.entry }
+    {
+        Offers { rest: self.part() }
+    }
+}
+
+impl<'a> Iterator for Offers<'a> {
+    type Item = Bid;
+
+    ghost next_gives = { YieldsFirstBy meant left };
+
+    ghost remaining = { item_count left };
+
+    fn next(&mut self) -> Option<Bid> {
+        if self.rest.len() < 6 {
+            return None;
+        }
+        let bid = Bid::read(self.rest, 0);
+        self.rest = &self.rest[6..];
+        Some(bid)
     }
 }

@@ -2,70 +2,68 @@
 // first; bids come last, their count before them in a byte, each a set in two bytes and a price in four.
 ghost use Rattle.std.specs.Prelude.{◌≡◌, ◌/◌, ◌%◌, ◌≤◌, ◌∷◌, ◌++◌, length, slice_index};
 ghost use Rattle.auction.specs.House.{bids};
-ghost use Rattle.wire.specs.Bytes.{WrittenIf, bids_in, spelled};
-ghost use Rattle.wire.specs.Calls.{call_bytes, call_in, call_of, call_size};
+ghost use Rattle.wire.specs.Bytes.{WrittenIf, all_bytes, bids_in, spelled};
+ghost use Rattle.wire.specs.Calls.{call_bytes, call_in, call_of, size_by};
+ghost use Rattle.wire.specs.Kinds.{kind_number};
 ghost use Rattle.wire.specs.Meaning.{asked, read_as};
 
 use crate::bids::Bids;
-use crate::bytes::{byte_or_zero, u32_at};
 use crate::call::Call;
-use crate::numbers::{BID, BRINGS, LOT, MY_BIDS, OPEN, RESULT, TICKS};
-use crate::puts::put_u32;
+use crate::in_bytes::{InBytes, byte_or_zero, write_all};
+use crate::kind::Kind;
 
 // The call that these bytes are, or the place of the first byte that does not fit.
 pub fn read_call<'a>(request: &'a [u8]) -> Result<Call<'a>, usize>
     ensures { read_as result ≡ call_in request.now }
 {
-    let size = size_of_call(request);
+    let first = request.first().ok_or(0usize)?;
+    let kind = Kind::try_from(*first).map_err(|_| 0usize)?;
+    let size = size_of_call(kind, request);
     if request.len() != size {
         return Err(request.len().min(size));
     }
-    Ok(whole_call(request))
+    Ok(whole_call(kind, request))
 }
 
-// How many bytes a call has that begins so, and 0 where none does.
-fn size_of_call(request: &[u8]) -> usize
-    ensures { result ≡ call_size request.now }
+// How many bytes a call of this kind has that begins so.
+fn size_of_call(kind: Kind, request: &[u8]) -> usize
+    ensures { result ≡ size_by (kind_number kind) (slice_index request.now 9) }
 {
-    if request.is_empty() {
-        return 1;
-    }
-    match request[0] {
-        BID => 10 + 6 * usize::from(byte_or_zero(request, 9)),
-        OPEN | MY_BIDS | RESULT => 9,
-        TICKS | BRINGS | LOT => 5,
-        _ => 0,
+    match kind {
+        Kind::Bid => 10 + 6 * usize::from(byte_or_zero(request, 9)),
+        Kind::Open | Kind::MyBids | Kind::Result => 9,
+        Kind::Ticks | Kind::Brings | Kind::Lot => 5,
     }
 }
 
-fn whole_call<'a>(request: &'a [u8]) -> Call<'a>
-    requires { length request.now ≡ call_size request.now }
-    ensures { asked result ≡ call_of (slice_index request.now 0) request.now }
+fn whole_call<'a>(kind: Kind, request: &'a [u8]) -> Call<'a>
+    requires { length request.now ≡ size_by (kind_number kind) (slice_index request.now 9) }
+    ensures { asked result ≡ call_of (kind_number kind) request.now }
 {
-    let first = u32_at(request, 1);
-    match request[0] {
-        OPEN => Call::Open {
+    let first = u32::read(request, 1);
+    match kind {
+        Kind::Open => Call::Open {
             pieces: first,
-            until: u32_at(request, 5),
+            until: u32::read(request, 5),
         },
-        BID => Call::Bid {
+        Kind::Bid => Call::Bid {
             lot: first,
-            bidder: u32_at(request, 5),
+            bidder: u32::read(request, 5),
             bids: Bids {
                 bytes: &request[10..],
             },
         },
-        TICKS => Call::Ticks { ticks: first },
-        MY_BIDS => Call::MyBids {
+        Kind::Ticks => Call::Ticks { ticks: first },
+        Kind::MyBids => Call::MyBids {
             lot: first,
-            bidder: u32_at(request, 5),
+            bidder: u32::read(request, 5),
         },
-        RESULT => Call::Result {
+        Kind::Result => Call::Result {
             lot: first,
-            bidder: u32_at(request, 5),
+            bidder: u32::read(request, 5),
         },
-        BRINGS => Call::Brings { lot: first },
-        _ => Call::Lot { lot: first },
+        Kind::Brings => Call::Brings { lot: first },
+        Kind::Lot => Call::Lot { lot: first },
     }
 }
 
@@ -75,37 +73,27 @@ pub fn write_call(call: Call<'_>, out: &mut [u8]) -> Option<usize>
     ensures { WrittenIf out.old out.new result (call_bytes (asked call.entry)) }
 {
     match call {
-        Call::Open { pieces, until } => put_two(out, OPEN, pieces, until),
+        Call::Open { pieces, until } => put_fields(out, Kind::Open, &[pieces, until]),
         Call::Bid { lot, bidder, bids } => put_bid_call(out, lot, bidder, bids.part()),
-        Call::Ticks { ticks } => put_one(out, TICKS, ticks),
-        Call::MyBids { lot, bidder } => put_two(out, MY_BIDS, lot, bidder),
-        Call::Result { lot, bidder } => put_two(out, RESULT, lot, bidder),
-        Call::Brings { lot } => put_one(out, BRINGS, lot),
-        Call::Lot { lot } => put_one(out, LOT, lot),
+        Call::Ticks { ticks } => put_fields(out, Kind::Ticks, &[ticks]),
+        Call::MyBids { lot, bidder } => put_fields(out, Kind::MyBids, &[lot, bidder]),
+        Call::Result { lot, bidder } => put_fields(out, Kind::Result, &[lot, bidder]),
+        Call::Brings { lot } => put_fields(out, Kind::Brings, &[lot]),
+        Call::Lot { lot } => put_fields(out, Kind::Lot, &[lot]),
     }
 }
 
-fn put_one(out: &mut [u8], kind: u8, field: u32) -> Option<usize>
-    ensures { WrittenIf out.old out.new result (kind ∷ spelled 4 field) }
+fn put_fields(out: &mut [u8], kind: Kind, fields: &[u32]) -> Option<usize>
+    requires { length fields.now ≤ 2 }
+    ensures { WrittenIf out.old out.new result (kind_number kind ∷ all_bytes (spelled 4) fields.now) }
 {
-    if out.len() < 5 {
+    let size = 1 + 4 * fields.len();
+    if out.len() < size {
         return None;
     }
-    out[0] = kind;
-    put_u32(out, 1, field);
-    Some(5)
-}
-
-fn put_two(out: &mut [u8], kind: u8, first: u32, second: u32) -> Option<usize>
-    ensures { WrittenIf out.old out.new result (kind ∷ (spelled 4 first ++ spelled 4 second)) }
-{
-    if out.len() < 9 {
-        return None;
-    }
-    out[0] = kind;
-    put_u32(out, 1, first);
-    put_u32(out, 5, second);
-    Some(9)
+    out[0] = u8::from(kind);
+    write_all(fields, out, 1);
+    Some(size)
 }
 
 fn put_bid_call(out: &mut [u8], lot: u32, bidder: u32, part: &[u8]) -> Option<usize>
@@ -116,9 +104,8 @@ fn put_bid_call(out: &mut [u8], lot: u32, bidder: u32, part: &[u8]) -> Option<us
     if out.len() < size {
         return None;
     }
-    out[0] = BID;
-    put_u32(out, 1, lot);
-    put_u32(out, 5, bidder);
+    out[0] = u8::from(Kind::Bid);
+    write_all(&[lot, bidder], out, 1);
     out[9] = (part.len() / 6) as u8;
     out[10..size].copy_from_slice(part);
     Some(size)

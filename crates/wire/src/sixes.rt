@@ -1,13 +1,19 @@
 // Laws of bids as six bytes each. These functions compute nothing: a call brings the law of its contract to the caller's proof.
-ghost use Rattle.std.specs.Prelude.{◌≡◌, ℕ, ◌+◌, ◌*◌, ◌/◌, ◌≤◌, min, [], ◌∷◌, length, take};
+ghost use Rattle.std.specs.Prelude.{◌≡◌, ℕ, ◌+◌, ◌*◌, ◌/◌, ◌<◌, ◌≤◌, [], ◌∷◌, length, take, drop, slice_index_or};
+ghost use Rattle.auction.specs.Bids.{no_bid};
 ghost use Rattle.bundles.specs.Offers.{meant};
-ghost use Rattle.wire.specs.Bytes.{bids_bytes, bids_in, put, spelled};
+ghost use Rattle.wire.specs.Bytes.{bid_in, bids_bytes, bids_in, put, spelled};
 
 use bundles::Bid;
 
 // There are as many bids as the count says.
 pub fn so_many_are_read(bytes: &[u8])
     ensures { (n : ℕ) → length (bids_in n bytes.now) ≡ n }
+{}
+
+// Each is in its six bytes.
+pub fn one_by_one(bytes: &[u8])
+    ensures { (n i : ℕ) → i < n → slice_index_or (bids_in n bytes.now) i no_bid ≡ bid_in (drop (6 * i) bytes.now) }
 {}
 
 // The bids are in their own bytes, and what is behind them is not looked at.

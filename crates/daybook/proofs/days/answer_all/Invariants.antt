@@ -1,12 +1,11 @@
-use Rattle.std.proofs.Common.{◌≡◌, ◌++◌, length, vec_items}
-use Rattle.daybook.specs.Records.{calls_in, left}
-use Rattle.daybook.proofs.Turns.{replies}
+use Rattle.std.proofs.Common.{◌≡◌, ◌++◌, map, vec_items}
+use Rattle.wire.specs.Calls.{call_in}
+use Rattle.daybook.specs.Records.{answer_records, calls_in, left, left_in, told}
 use Rattle.daybook.proofs.days.answer_all.Given as goal
 
 abbrev pub invariant-loop-request : goal.invariant-loop-request
 invariant-loop-request l =
-    (vec_items l.answers ++ replies l.memory l.rest ≡ vec_items l.initial.answers ++ replies l.initial.memory l.initial.rest)
-    × (left l.memory (calls_in l.rest) ≡ left l.initial.memory (calls_in l.initial.rest))
-
-abbrev pub decreases-loop-request : goal.decreases-loop-request
-decreases-loop-request l = length l.rest
+    (goal.iterator-loop-request).can_next l.request-iterator
+    × (goal.iterator-loop-request).is_finite l.request-iterator
+    × (vec_items l.answers ++ answer_records (told l.memory (map call_in (left_in l.request-iterator))) ≡ vec_items l.initial.answers ++ answer_records (told l.initial.memory (calls_in l.requests)))
+    × (left l.memory (map call_in (left_in l.request-iterator)) ≡ left l.initial.memory (calls_in l.requests))

@@ -1,9 +1,9 @@
-use Rattle.std.proofs.Common.{◌-◌, ◌<◌, length, IfSome}
+use Rattle.std.proofs.Common.{◌≡◌, length, All, Any, Contains, IfSome, string_bytes}
 use Rattle.ledger.specs.Layout.{Good}
 use Rattle.house.proofs.options.wish_of.Given as goal
 
-abbrev pub invariant-loop-at : goal.invariant-loop-at
-invariant-loop-at l = Good l.limits × IfSome l.file (λ at. at < length l.words)
+abbrev pub invariant-loop-word : goal.invariant-loop-word
+invariant-loop-word l = Good l.limits × IfSome l.file (λ name. Any (λ w. string_bytes w ≡ name.now) l.words) × All (Contains l.words) l.rest.rest.now
 
-abbrev pub decreases-loop-at : goal.decreases-loop-at
-decreases-loop-at l = length l.words - l.at
+abbrev pub decreases-loop-word : goal.decreases-loop-word
+decreases-loop-word l = length l.rest.rest.now

@@ -1,15 +1,14 @@
-use Rattle.ledger.proofs.Found.{closed_counts, closed_stays}
+use Rattle.std.proofs.Common.{ℕ, leb, ◌∙◌, arith, rules}
+use borrow.Author.Tests.{tests}
+use Rattle.std.proofs.lemmas.Iterator.{YieldsList-from_range}
+use Rattle.std.proofs.lemmas.Iterator.Consumers.{count_from_yields_List, YieldsList-from_filter}
+use Rattle.ledger.specs.Houses.{lot_words}
+use Rattle.ledger.proofs.Found.{closed_counted}
 use Rattle.ledger.proofs.finding.closed_at.Goals as goal
-use Rattle.ledger.proofs.finding.closed_at.Goals.{then-is_by, else-is_by}
 
-pub loop-number-preserved : goal.loop-number-preserved
-loop-number-preserved c =
+pub returns : goal.returns
+returns c =
     let m = c.args.memory.now in
-    elim c.if-is_by.branch [
-      | then-is_by w ↦
-          closed_counts m c.args.tick c.loop-number.number c.loop-number.closed c.if-is_by.closed c.closing_of.result c.loop-number.invariant c.closing_of.ensures
-          w.if-is_by.ensures w.closed-is
-      | else-is_by w ↦
-          closed_stays m c.args.tick c.loop-number.number c.loop-number.closed c.if-is_by.closed c.closing_of.result c.loop-number.invariant c.closing_of.ensures
-          w.if-is_by.ensures w.closed-is
-    ]
+    count_from_yields_List _ _ c.count.ensures.ran
+    (YieldsList-from_filter _ (λ (k : ℕ). leb (lot_words m k).until c.args.tick) (YieldsList-from_range 0 c.args.count c.args.count c.filter.ensures.source (omega arith)) c.filter.ensures.closure (λ x b q k. search (rules, tests)))
+    ∙ closed_counted m c.args.tick c.args.count

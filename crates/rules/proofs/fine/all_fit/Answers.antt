@@ -1,13 +1,14 @@
-use Rattle.std.proofs.Common.{true, false, sym, ◌∙◌}
-use Rattle.rules.proofs.Steps.{fit_all, fit_step}
+use Rattle.std.proofs.Common.{◌∙◌, rules}
+use borrow.Author.Tests.{tests}
+use Rattle.std.proofs.lemmas.Iterator.{YieldsList-from_slice}
+use Rattle.std.proofs.lemmas.Iterator.Search.{all_from_yields_List}
+use Rattle.auction.specs.Bids.{all, within}
+use Rattle.bundles.specs.Offers.{meant}
+use Rattle.bundles.specs.declared.Bid.{Bid}
+use Rattle.rules.proofs.Steps.{all_in-list_all}
 use Rattle.rules.proofs.fine.all_fit.Goals as goal
 
-pub returns-then-not-fits : goal.returns-then-not-fits
-returns-then-not-fits c =
-    sym (c.loop-bid.invariant ∙ fit_step c.args.bids.now c.args.pieces c.loop-bid.bid-index _ false c.loop-bid-test.true c.if-not-fits.ensures)
-
-pub loop-bid-preserved : goal.loop-bid-preserved
-loop-bid-preserved c = c.loop-bid.invariant ∙ fit_step c.args.bids.now c.args.pieces c.loop-bid.bid-index _ true c.loop-bid-test.true c.if-not-fits.ensures
-
 pub returns : goal.returns
-returns c = sym (c.loop-bid.invariant ∙ fit_all c.args.bids.now c.args.pieces c.loop-bid.bid-index c.loop-bid-test.false)
+returns c =
+    all_from_yields_List (λ (b : Bid). within (meant b).on (all c.args.pieces)) _ _ c.all.result c.all.ensures.ran (YieldsList-from_slice c.args.bids.now (search rules)) (λ x b q k. search (rules, tests))
+    ∙ all_in-list_all c.args.bids.now c.args.pieces

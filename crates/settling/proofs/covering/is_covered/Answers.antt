@@ -1,33 +1,19 @@
-use Rattle.std.proofs.Common.{◌≡◌, ℕ, ◌+◌, ◌<◌, Bool, ◌||◌, List, length, get_or, drop, sym, ap, ◌∙◌, rules}
-use Rattle.std.proofs.lemmas.List.{drop_all, drop_more}
+use Rattle.std.proofs.Common.{Bool, List, [], ◌∷◌, ◌||◌, map, sym, refl, ap, ◌∙◌, ◌≡◌, rules}
+use borrow.Author.Tests.{tests}
+use Rattle.std.specs.List.{list_any}
+use Rattle.std.proofs.lemmas.Iterator.{YieldsList-from_slice}
+use Rattle.std.proofs.lemmas.Iterator.Search.{any_from_yields_List}
 use Rattle.auction.specs.Faster.{covers}
-use Rattle.bundles.specs.Offers.{all_meant, meant}
+use Rattle.bundles.specs.Offers.{meant}
 use Rattle.bundles.specs.declared.Bid.{Bid}
-use Rattle.settling.specs.Covers.{covered}
-use Rattle.settling.proofs.Keeping.{nothing}
 use Rattle.settling.proofs.covering.is_covered.Goals as goal
 
--- this one, or one behind it
-here : (b : Bid) (by : List Bid) (i : ℕ) → i < length by → covered (meant b) (all_meant (drop i by)) ≡ (covers (meant (get_or by i nothing)) (meant b) || covered (meant b) (all_meant (drop (i + 1) by)))
-unfolding covered
-here b by i lt = ap (λ (bs : List Bid). covered (meant b) (all_meant bs)) (drop_more by i nothing lt)
-
-pub returns-then-is_cover : goal.returns-then-is_cover
-returns-then-is_cover c =
-    let b = c.args.bid in
-    let by = c.args.by.now in
-    let i = c.loop-other.other-index in
-    sym (c.loop-other.invariant ∙ here b by i (search rules) ∙ ap (λ (t : Bool). t || covered (meant b) (all_meant (drop (i + 1) by))) (sym c.if-is_cover.ensures))
-
-pub loop-other-preserved : goal.loop-other-preserved
-loop-other-preserved c =
-    let b = c.args.bid in
-    let by = c.args.by.now in
-    let i = c.loop-other.other-index in
-    c.loop-other.invariant ∙ here b by i (search rules) ∙ ap (λ (t : Bool). t || covered (meant b) (all_meant (drop (i + 1) by))) (sym c.if-is_cover.ensures)
+list_any-map : {A B : Type 0} (p : B → Bool) (f : A → B) (xs : List A) → list_any p (map f xs) ≡ list_any (λ x. p (f x)) xs
+list_any-map p f [] = refl
+list_any-map p f (x ∷ xs) = ap (λ (t : Bool). p (f x) || t) (list_any-map p f xs)
 
 pub returns : goal.returns
-unfolding covered
 returns c =
-    let by = c.args.by.now in
-    sym (c.loop-other.invariant ∙ ap (λ (bs : List Bid). covered (meant c.args.bid) (all_meant bs)) (drop_all c.loop-other.other-index by (search rules)))
+    let b = meant c.args.bid in
+    any_from_yields_List (λ (o : Bid). covers (meant o) b) _ _ _ c.any.ensures.ran (YieldsList-from_slice c.args.by.now cc) (λ x r q k. search (rules, tests))
+    ∙ sym (list_any-map (λ o. covers o b) meant c.args.by.now)

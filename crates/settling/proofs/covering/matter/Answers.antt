@@ -10,4 +10,4 @@ pub returns : goal.returns
 returns c =
     let P : List Bid → Type 0 = λ bs. Kept (all_meant (held c.uncovered.result)) (all_meant bs) in
     let Q : List Bid → Type 0 = λ bs. Kept (all_meant (held c.uncovered-back.result)) (all_meant bs) in
-    kept_trans _ (all_meant (held c.uncovered-back.result)) _ (subst P c.bids-2.ensures c.uncovered.ensures) (subst Q c.bids.ensures c.uncovered-back.ensures)
+    kept_trans _ (all_meant (held c.uncovered-back.result)) _ (subst P c.as_slice-2.ensures c.uncovered.ensures) (subst Q c.as_slice.ensures c.uncovered-back.ensures)

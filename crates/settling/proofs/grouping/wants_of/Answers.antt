@@ -1,20 +1,18 @@
-use Rattle.std.proofs.Common.{◌≡◌, ℕ, ◌-◌, get_or, drop, ap, ◌∙◌, arith, rules}
+use Rattle.std.proofs.Common.{ℕ, get_or, take, sym, ap, ◌∙◌, rules}
 use lib.Bits.{bit_or}
+use Rattle.std.proofs.lemmas.List.{take_more}
 use Rattle.settling.specs.Groups.{wants}
-use Rattle.settling.proofs.Keeping.{nothing}
-use Rattle.settling.proofs.Joining.{wants-more, wants-none}
+use Rattle.solver.proofs.Goods.{nothing}
+use Rattle.settling.proofs.Joining.{wants-more, wants-none, joined_is}
 use Rattle.settling.proofs.grouping.wants_of.Goals as goal
 
-pub loop-i-init : goal.loop-i-init
-loop-i-init c = wants-none c.bids-bids.result.now
+pub loop-bid-init : goal.loop-bid-init
+loop-bid-init c = c.default-pieces.ensures ∙ sym wants-none
 
-pub loop-i-preserved : goal.loop-i-preserved
-loop-i-preserved c =
-    let bids = c.bids-bids.result.now in
-    let i = c.loop-i.i in
-    ap (bit_or (get_or bids (i - 1) nothing).on.mask) c.loop-i.invariant ∙ wants-more bids i (search rules) (search rules)
-
-pub returns : goal.returns
-returns c =
-    let first : c.loop-i.i ≡ 0 = omega arith in
-    c.loop-i.invariant ∙ ap (λ (i : ℕ). wants (drop i c.bids-bids.result.now)) first ∙ ap wants c.bids-bids.ensures
+pub loop-bid-preserved : goal.loop-bid-preserved
+loop-bid-preserved c =
+    let bids = c.as_slice-bid-items.result.now in
+    let i = c.loop-bid.bid-index in
+    let on = (get_or bids i nothing).on.mask in
+    joined_is c.loop-bid.pieces.mask on c.joined-pieces.result.mask c.joined-pieces.ensures
+    ∙ ap (λ (x : ℕ). bit_or x on) c.loop-bid.invariant ∙ sym (wants-more (take i bids) (get_or bids i nothing)) ∙ ap wants (sym (take_more bids i nothing (search rules)))

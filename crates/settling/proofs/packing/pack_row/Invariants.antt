@@ -3,5 +3,5 @@ use Rattle.bundles.specs.Rows.{held}
 use Rattle.settling.specs.Packs.{packed_bids}
 use Rattle.settling.proofs.packing.pack_row.Given as goal
 
-abbrev pub invariant-loop-i : goal.invariant-loop-i
-invariant-loop-i l = held l.packed ≡ packed_bids l.places.mask (take l.i l.bids)
+abbrev pub invariant-loop-bid : goal.invariant-loop-bid
+invariant-loop-bid l = held l.packed ≡ packed_bids l.places.mask (take l.bid-index l.bid-items)

@@ -1,17 +1,11 @@
-use Rattle.std.proofs.Common.{ℕ, ◌-◌, ap, ◌∙◌, arith, rules}
-use lib.Bits.{bit_and, and_le_l}
-use Rattle.bundles.specs.Masks.{bits}
-use Rattle.bundles.proofs.Sets.{less-bits}
+use Rattle.std.proofs.Common.{arith, rules}
+use lib.Bits.{and_zero_r}
+use Rattle.bundles.proofs.Sets.{less-bits, and_not}
 use Rattle.solver.proofs.choosing.left_over.Goals as goal
 
-pub overflow_sub-result : goal.overflow_sub-result
-overflow_sub-result c = and_le_l c.args.free c.from.result
+pub returns-in-Some-clause-less : goal.returns-in-Some-clause-less
+returns-in-Some-clause-less c = λ n.
+    rw (c.in-Some.is, c.from.ensures) (less-bits n 16 c.args.free c.in-Some.taken.bid.on.mask _ (search rules) (and_not 64 c.args.free c.in-Some.taken.bid.on.mask (search rules) (search rules)))
 
-pub returns : goal.returns
-returns c =
-    let free = c.args.free in
-    let mask = c.args.on.mask in
-    record {
-      less = λ n. ap (λ (on : ℕ). bits n (free - bit_and free on)) c.from.ensures ∙ less-bits n 16 free mask (free - bit_and free mask) (search rules) (omega (arith, and_le_l free mask));
-      no_more = omega arith;
-    }
+pub returns-in-None-clause-less : goal.returns-in-None-clause-less
+returns-in-None-clause-less c = λ n. rw c.in-None.is (less-bits n 16 c.args.free 0 c.args.free (omega arith) (omega (arith, and_zero_r c.args.free)))

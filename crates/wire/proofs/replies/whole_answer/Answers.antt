@@ -1,7 +1,5 @@
-use Rattle.wire.proofs.Heard.{row_room}
+use Rattle.wire.proofs.Heard.{row_few}
 use Rattle.wire.proofs.replies.whole_answer.Goals as goal
 
 pub row_in-requires : goal.row_in-requires
-row_in-requires c =
-    let bs = c.args.bytes.now in
-    rw (c.from.ensures, c.byte_or_zero.ensures) (row_room bs c.requires c.in-3.is)
+row_in-requires c = row_few c.args.bytes.now (rw c.in-Bids.is at c.requires)

@@ -11,5 +11,5 @@ returns-then-out-size c =
 pub returns : goal.returns
 returns c =
     let bytes : AllBytes c.args.part.now = λ i. (c.type_inv.part i).fits in
-    bid_call_written c.args.lot c.args.bidder c.args.part.now bytes c.requires.0 c.args.out.now _ _ _ _ _ refl (omega arith) (omega arith)
-    c.put_u32.ensures c.put_u32-2.ensures c.copy_from_slice.ensures.after
+    bid_call_written c.args.lot c.args.bidder c.args.part.now bytes c.requires.0 c.args.out.now _ _ _ _ _ c.from.ensures refl (omega arith) (omega arith)
+    c.write_all.ensures c.copy_from_slice.ensures.after

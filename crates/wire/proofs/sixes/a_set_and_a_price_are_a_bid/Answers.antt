@@ -1,6 +1,6 @@
 use Rattle.std.proofs.Common.{◌+◌, sym, ap, ◌∙◌, arith, rules}
 use Rattle.wire.specs.Bytes.{put, spelled}
-use Rattle.wire.proofs.Spelling.{length-spelled}
+use Rattle.wire.specs.Sizes.{length-spelled}
 use Rattle.wire.proofs.Writing.{put-put, bid_bytes}
 use Rattle.wire.proofs.sixes.a_set_and_a_price_are_a_bid.Goals as goal
 

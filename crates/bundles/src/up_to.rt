@@ -1,0 +1,94 @@
+// At most so many values in their order, by value and with no heap.
+ghost use Rattle.std.specs.Prelude.{◌≡◌, ◌≤◌, length};
+
+use std::alloc::AllocError;
+
+#[derive(Copy)]
+pub struct UpTo<T, const N: usize> {
+    items: [T; N],
+    count: usize,
+    ghost few: { count ≤ N },
+    ghost whole: { length items ≡ N },
+}
+
+// There was no room for one more.
+#[derive(Clone, Copy, Debug, PartialEq, Eq)]
+pub struct Full;
+
+impl<T: Copy, const N: usize> Clone for UpTo<T, N> {
+    ghost use Rattle.std.specs.Prelude.{◌≡◌, ⊤};
+
+    ghost is_clone = { ◌≡◌ };
+
+    ghost is_infallible = { λ _. ⊤ };
+
+    fn clone(&self) -> Result<Self, AllocError> {
+        Ok(*self)
+    }
+}
+
+impl<T: Copy + Default, const N: usize> UpTo<T, N> {
+    ghost use Rattle.bundles.specs.Rows.{held};
+    ghost use Rattle.std.specs.Prelude.{◌≡◌, []};
+
+    pub fn new() -> Self
+        ensures { held result ≡ [] }
+    {
+        UpTo {
+            items: [T::default(); N],
+            count: 0,
+        }
+    }
+}
+
+impl<T: Copy + Default, const N: usize> Default for UpTo<T, N> {
+    ghost use Rattle.bundles.specs.Rows.{held};
+    ghost use Rattle.std.specs.Prelude.{◌≡◌, []};
+
+    ghost is_default = { λ u. held u ≡ [] };
+
+    fn default() -> Self {
+        UpTo::new()
+    }
+}
+
+impl<T: Copy, const N: usize> UpTo<T, N> {
+    ghost use Rattle.bundles.specs.Rows.{held};
+    ghost use Rattle.std.specs.Prelude.{◌≡◌, ◌<◌, ◌≤◌, ◌↔◌, [], ◌∷◌, ◌++◌, length, not, nat_lt, IsOk, OnOk, OnErr};
+
+    pub fn as_slice(&self) -> &[T]
+        ensures { result.now ≡ held self.now }
+    {
+        let all = &self.items[..];
+        &all[..self.count]
+    }
+
+    pub fn is_full(&self) -> bool
+        ensures full { result ≡ not (nat_lt (length (held self.now)) N) }
+        ensures within { length (held self.now) ≤ N }
+    {
+        self.count == N
+    }
+
+    // One more at the end.
+    pub fn push(&mut self, item: T)
+        requires { length (held self.old) < N }
+        ensures { held self.new ≡ held self.old ++ item ∷ [] }
+    {
+        self.items[self.count] = item;
+        self.count += 1;
+    }
+
+    // One more at the end; or there is no room, and nothing is changed.
+    pub fn try_push(&mut self, item: T) -> Result<(), Full>
+        ensures room { IsOk result ↔ (length (held self.old) < N) }
+        ensures pushed { OnOk result (held self.new ≡ held self.old ++ item ∷ []) }
+        ensures full { OnErr result (self.new ≡ self.old) }
+    {
+        if self.is_full() {
+            return Err(Full);
+        }
+        self.push(item);
+        Ok(())
+    }
+}

@@ -1,6 +1,0 @@
-use Rattle.std.proofs.Common.{arith}
-use Rattle.wire.proofs.Spelling.{eight_at}
-use Rattle.wire.proofs.bytes.u64_at.Goals as goal
-
-pub returns : goal.returns
-returns c = omega (arith, eight_at c.args.at c.args.bytes.now)

@@ -1,0 +1,6 @@
+use Rattle.std.proofs.Common.{sym, ◌∙◌}
+use Rattle.wire.proofs.Spelling.{four_at}
+use Rattle.wire.proofs.in_bytes.U32InBytes.read.Goals as goal
+
+pub returns : goal.returns
+returns c = c.from_le_bytes.ensures ∙ sym (four_at c.args.at c.args.bytes.now)

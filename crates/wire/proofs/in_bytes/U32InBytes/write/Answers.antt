@@ -1,0 +1,6 @@
+use Rattle.std.proofs.Common.{◌∙◌, arith}
+use Rattle.wire.proofs.Writing.{put_number, spelled_4}
+use Rattle.wire.proofs.in_bytes.U32InBytes.write.Goals as goal
+
+pub returns : goal.returns
+returns c = put_number c.args.at 4 c.args.self _ c.args.out.now _ _ (c.copy_from_slice.ensures.after ∙ c.to_le_bytes.ensures) (spelled_4 c.args.self) (omega arith)
