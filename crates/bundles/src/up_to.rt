@@ -1,7 +1,8 @@
-// At most so many values in their order, by value and with no heap.
+// At most so many values in their order, by value and with no heap. The library's list of this kind, `ArrayVec`, is no `Copy` value.
 ghost use Rattle.std.specs.Prelude.{◌≡◌, ◌≤◌, length};
 
 use std::alloc::AllocError;
+use std::fmt;
 
 #[derive(Copy)]
 pub struct UpTo<T, const N: usize> {
@@ -15,6 +16,7 @@ pub struct UpTo<T, const N: usize> {
 #[derive(Clone, Copy, Debug, PartialEq, Eq)]
 pub struct Full;
 
+// Written out, since no `Clone` is derived for a generic struct with a ghost field.
 impl<T: Copy, const N: usize> Clone for UpTo<T, N> {
     ghost use Rattle.std.specs.Prelude.{◌≡◌, ⊤};
 
@@ -49,6 +51,35 @@ impl<T: Copy + Default, const N: usize> Default for UpTo<T, N> {
 
     fn default() -> Self {
         UpTo::new()
+    }
+}
+
+// Two lists are the same if their values are, whatever lies behind these.
+impl<T: Copy + PartialEq, const N: usize> PartialEq for UpTo<T, N> {
+    ghost use Rattle.bundles.specs.Rows.{held};
+    ghost use Rattle.std.specs.Cmp.{on_per};
+    ghost use Rattle.std.specs.Cmp.Lexicographic.{pointwise, lists_per};
+
+    ghost eq = { λ u v. pointwise T.PartialEq.eq (held u) (held v) };
+
+    ghost laws = { on_per (λ u. held u) (lists_per T.PartialEq.laws) };
+
+    fn eq(&self, other: &Self) -> bool {
+        self.as_slice() == other.as_slice()
+    }
+}
+
+impl<T: Copy + Eq, const N: usize> Eq for UpTo<T, N> {
+    ghost use Rattle.bundles.specs.Rows.{held};
+    ghost use Rattle.std.specs.Cmp.{on_equiv};
+    ghost use Rattle.std.specs.Cmp.Lexicographic.{lists_equiv};
+
+    ghost laws = { on_equiv (λ u. held u) (lists_equiv T.Eq.laws) };
+}
+
+impl<T: Copy + fmt::Debug, const N: usize> fmt::Debug for UpTo<T, N> {
+    fn fmt<W: fmt::Write>(&self, f: &mut fmt::Formatter<W>) -> fmt::Result {
+        f.debug_list().entries(self.as_slice()).finish()
     }
 }
 

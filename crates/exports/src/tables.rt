@@ -6,10 +6,12 @@ ghost use Rattle.exports.specs.Filling.{MayFill, fill_refusal, fill_told, rows_i
 
 use crate::codes::code_of;
 use crate::rows::read_rows;
-use solver::fill_tables;
+use bundles::MOST_PIECES;
+use ledger::MOST_BIDDERS;
+use solver::{fill_tables, words_for};
 use wire::Refusal;
 
-// Fills the tables of all bidders, and tells how many words that took.
+// Fills the tables of all bidders, and tells how many words that took, or a code below 0: C has no `Result`.
 #[unsafe(no_mangle)]
 pub extern "C" fn vabrjoth_fill_tables(
     tables: &mut [u32],
@@ -45,7 +47,7 @@ fn fill_from_words(tables: &mut [u32], pieces: u32, bidders: usize, words: &[u32
 fn may_fill(len: usize, pieces: u32, bidders: u32, words: usize) -> Result<usize, Refusal>
     ensures { MatchResult result (λ size. MayFill len pieces bidders words size) (λ e. refusal_number e ≡ fill_refusal len pieces bidders words) }
 {
-    if pieces > 16 || bidders > 32 || words < 32 * bidders as usize {
+    if pieces > MOST_PIECES || bidders > MOST_BIDDERS || words < 32 * bidders as usize {
         return Err(Refusal::OutOfRange);
     }
     let size = words_for(pieces, bidders as usize);
@@ -53,12 +55,4 @@ fn may_fill(len: usize, pieces: u32, bidders: u32, words: usize) -> Result<usize
         return Err(Refusal::NoHouse);
     }
     Ok(size)
-}
-
-// A table for each bidder, and one behind the last.
-fn words_for(pieces: u32, bidders: usize) -> usize
-    requires { (pieces ≤ 16) × (bidders ≤ 32) }
-    ensures { result ≡ table_at pieces (bidders + 1) }
-{
-    (bidders + 1) * (2 * (1usize << pieces))
 }

@@ -1,10 +1,12 @@
 // The words of the command line.
-ghost use Rattle.std.specs.Prelude.{◌≤◌, IfOk};
+ghost use Rattle.std.specs.Prelude.{◌≡◌, ◌≤◌, false, IfOk};
+ghost use Rattle.std.specs.Range.{range_inclusive_end, range_inclusive_exhausted, range_inclusive_start};
 ghost use Rattle.house.specs.Wishes.{Sane};
 ghost use Rattle.ledger.specs.Layout.{Good};
 
-use ledger::Limits;
+use ledger::{Limits, MOST_BIDDERS, MOST_EACH, MOST_LOTS};
 use std::fmt;
+use std::ops::RangeInclusive;
 
 pub const HELP: &str = "usage: house [--lots N] [--bidders N] [--each N] [FILE]
 
@@ -34,7 +36,7 @@ Answers:
 ";
 
 // What is asked for: the help, or a house with limits and a file.
-#[derive(Clone, Copy)]
+#[derive(Clone, Copy, Debug, PartialEq, Eq)]
 pub enum Wish<'a> {
     Help,
     Serve {
@@ -44,7 +46,7 @@ pub enum Wish<'a> {
 }
 
 // What is wrong with the words.
-#[derive(Clone, Copy)]
+#[derive(Clone, Copy, Debug, PartialEq, Eq)]
 pub enum Fault<'a> {
     Unknown(&'a str),
     NoNumber(&'a str),
@@ -81,9 +83,9 @@ pub fn wish_of<'a>(words: &'a [String]) -> Result<Wish<'a>, Fault<'a>>
     ensures { IfOk result (λ w. Sane words.now w) }
 {
     let mut limits = Limits {
-        lots: 4096,
-        bidders: 32,
-        each: 16,
+        lots: MOST_LOTS,
+        bidders: MOST_BIDDERS,
+        each: MOST_EACH,
     };
     let mut file = None;
     let mut rest = words.iter();
@@ -102,7 +104,7 @@ pub fn wish_of<'a>(words: &'a [String]) -> Result<Wish<'a>, Fault<'a>>
     Ok(Wish::Serve { limits, file })
 }
 
-// The limits with the one that the option names.
+// The limits with the one that the option names: looked at again here, so that the loop keeps one fact of the limits, and not three.
 fn with_limit<'a>(
     limits: Limits,
     option: &'a str,
@@ -113,15 +115,15 @@ fn with_limit<'a>(
 {
     Ok(match option {
         "--lots" => Limits {
-            lots: number_behind(option, given, 0, 4096)?,
+            lots: number_behind(option, given, 0..=MOST_LOTS)?,
             ..limits
         },
         "--bidders" => Limits {
-            bidders: number_behind(option, given, 1, 32)?,
+            bidders: number_behind(option, given, 1..=MOST_BIDDERS)?,
             ..limits
         },
         _ => Limits {
-            each: number_behind(option, given, 0, 16)?,
+            each: number_behind(option, given, 0..=MOST_EACH)?,
             ..limits
         },
     })
@@ -131,19 +133,19 @@ fn with_limit<'a>(
 fn number_behind<'a>(
     option: &'a str,
     given: Option<&'a String>,
-    least: u32,
-    most: u32,
+    range: RangeInclusive<u32>,
 ) -> Result<u32, Fault<'a>>
-    ensures { IfOk result (λ n. (least ≤ n) × (n ≤ most)) }
+    requires { range_inclusive_exhausted range ≡ false }
+    ensures { IfOk result (λ n. (range_inclusive_start range ≤ n) × (n ≤ range_inclusive_end range)) }
 {
     let given = given.ok_or(Fault::NoNumber(option))?.as_str();
     match given.parse::<u32>() {
-        Ok(n) if (least..=most).contains(&n) => Ok(n),
+        Ok(n) if range.contains(&n) => Ok(n),
         _ => Err(Fault::NotInRange {
             option,
             given,
-            least,
-            most,
+            least: *range.start(),
+            most: *range.end(),
         }),
     }
 }

@@ -31,6 +31,13 @@ const TABLES: usize = 524280;
 // No house has fewer words: one bidder, and no lots.
 pub const FEWEST: usize = HEADER + TABLE + TABLES;
 
+// No house has more lots, more bidders, or more bids of a bidder on a lot.
+pub const MOST_LOTS: u32 = 4096;
+
+pub const MOST_BIDDERS: u32 = 32;
+
+pub const MOST_EACH: u32 = 16;
+
 // How many lots there may be, how many bidders, and how many bids each may have on a lot.
 #[derive(Clone, Copy, Debug, PartialEq, Eq)]
 pub struct Limits {
@@ -40,19 +47,19 @@ pub struct Limits {
 }
 
 // Limits that are in range: where each thing stands follows from them.
-#[derive(Clone, Copy, Debug)]
+#[derive(Clone, Copy, Debug, PartialEq, Eq)]
 pub struct Layout {
     pub limits: Limits,
-    ghost good: { Good limits },
+    pub ghost good: { Good limits },
 }
 
 // The place of a bidder's bids on a lot, of a lot and a bidder that the limits have.
-#[derive(Clone, Copy, Debug)]
+#[derive(Clone, Copy, Debug, PartialEq, Eq)]
 pub struct RowPlace {
     pub limits: Limits,
     pub lot: u32,
     pub bidder: u32,
-    ghost there: { HasRow limits lot bidder },
+    pub ghost there: { HasRow limits lot bidder },
 }
 
 // How many words a house with these limits asks for, or none where they are out of range.
@@ -74,7 +81,10 @@ impl Limits {
     pub fn layout(self) -> Option<Layout>
         ensures { MatchOption result (good self ≡ false) (λ l. (good self ≡ true) × (l.limits ≡ self)) }
     {
-        if self.lots <= 4096 && (1..=32).contains(&self.bidders) && self.each <= 16 {
+        if self.lots <= MOST_LOTS
+            && (1..=MOST_BIDDERS).contains(&self.bidders)
+            && self.each <= MOST_EACH
+        {
             Some(Layout { limits: self })
         } else {
             None

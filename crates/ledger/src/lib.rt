@@ -2,7 +2,7 @@
 #![tactic(auto)]
 
 pub use finding::{Closing, closed_by_now, find_lot, find_place, next_closing};
-pub use layout::{Layout, Limits, RowPlace, words_needed};
+pub use layout::{Layout, Limits, MOST_BIDDERS, MOST_EACH, MOST_LOTS, RowPlace, words_needed};
 pub use lots::{Lot, add_lot, lot_of};
 pub use opening::{Trouble, open};
 pub use rows::{bids_of, read_row, replace_bids};

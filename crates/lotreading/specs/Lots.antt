@@ -3,8 +3,8 @@ use Rattle.std.specs.Prelude.{ℕ, zero, suc, ◌-◌, Bool, true, false, List, 
 use Rattle.auction.specs.Bids.{Bid, Bids, pick}
 use Rattle.bundles.specs.Masks.{bits}
 use Rattle.reading.specs.Calls.{at}
-use Rattle.reading.specs.Lines.{byte, given, larger, next, piece, spelt}
-use Rattle.lotreading.specs.Finds.{Find, and_then, expecting, found, missed}
+use Rattle.reading.specs.Lines.{byte, given, larger, next, piece, some_of, spelt}
+use Rattle.lotreading.specs.Finds.{Find, and_then, expecting, found, found_of, missed}
 use Rattle.lotreading.specs.Parts.{behind_blanks, blank_here, gap, ranged}
 use Rattle.lotreading.specs.declared.expected.Expected.{Expected}
 use Rattle.lotreading.specs.declared.expected.Expected.TheVariants.{Pieces, Colon, Bidder, Set, PieceOfLot, PieceOnce, PriceBehindSet, Price, SetBehindOr, SixteenBids, ThirtyTwoBidders, OrOrEnd, End}
@@ -13,22 +13,13 @@ use Rattle.lotreading.specs.declared.expected.Expected.TheVariants.{Pieces, Colo
 abbrev pub joined : ℕ → ℕ → ℕ → Result ℕ Expected
 joined n m p = pick (nat_lt p n) (given (larger m p) (Err PieceOnce) (λ k. Ok k)) (Err PieceOfLot)
 
-abbrev pub went : {X : Type 0} → Result ℕ Expected → List ℕ → (ℕ → Find X) → Find X
-went (Ok k) bs next = next k
-went (Err e) bs next = missed e bs
-
--- as long as the bytes are pieces, each is one more of the set m
-unfoldable pub pieces_on : ℕ → ℕ → List ℕ → Find ℕ
-pieces_on n m [] = found m []
-pieces_on n m (b ∷ bs) = given (piece b) (found m (b ∷ bs)) (λ p. went (joined n m p) (b ∷ bs) (λ k. pieces_on n k bs))
-
 -- does a set begin here?
 abbrev pub set_here : List ℕ → Bool
 set_here bs = given (given (next bs) None piece) false (λ _. true)
 
 -- a set of pieces of the lot, none twice, as the bits of a number
 abbrev pub set_of : ℕ → List ℕ → Find ℕ
-set_of n bs = pick (set_here bs) (pieces_on n 0 bs) (missed Set bs)
+set_of n bs = found_of (some_of piece (joined n) 0 Set bs)
 
 abbrev pub price : List ℕ → Find ℕ
 price bs = expecting Price (ranged 1 1000000000 bs)

@@ -8,12 +8,12 @@ ghost use Rattle.lotreading.specs.Readers.{finds, finds_as};
 
 use crate::expected::Expected;
 use crate::parts::{at_blank, blanks, gap, ranged};
-use crate::pieces::Pieces;
+use crate::pieces::PieceCount;
 use bundles::{Bid, Bundle, HIGHEST_PRICE, Row};
-use reading::{Reader, larger};
+use reading::{Reader, larger, piece};
 
 // A bidder's bids, or `nothing`, where a lot has so many pieces.
-pub fn bidder(reader: &mut Reader<'_>, pieces: Pieces) -> Result<Row, Expected>
+pub fn bidder(reader: &mut Reader<'_>, pieces: PieceCount) -> Result<Row, Expected>
     ensures { finds_as (λ row. all_meant (held row)) result reader.new ≡ bidder_in pieces reader.old }
 {
     if reader.at(b'n') {
@@ -26,7 +26,7 @@ pub fn bidder(reader: &mut Reader<'_>, pieces: Pieces) -> Result<Row, Expected>
 
 // One bid or more.
 #[tactic(auto, using(crate::proofs::Several::several_steps))]
-fn bids(reader: &mut Reader<'_>, pieces: Pieces) -> Result<Row, Expected>
+fn bids(reader: &mut Reader<'_>, pieces: PieceCount) -> Result<Row, Expected>
     ensures { finds_as (λ row. all_meant (held row)) result reader.new ≡ bids_in pieces reader.old }
 {
     let mut row = Row::new();
@@ -58,7 +58,7 @@ fn another(reader: &mut Reader<'_>, may: bool) -> Result<bool, Expected>
 }
 
 // A set and a price.
-fn bid(reader: &mut Reader<'_>, pieces: Pieces) -> Result<Bid, Expected>
+fn bid(reader: &mut Reader<'_>, pieces: PieceCount) -> Result<Bid, Expected>
     ensures { finds_as meant result reader.new ≡ bid_in pieces reader.old }
 {
     let mask = set(reader, pieces)?;
@@ -70,22 +70,21 @@ fn bid(reader: &mut Reader<'_>, pieces: Pieces) -> Result<Bid, Expected>
     })
 }
 
-// One piece or more.
-#[tactic(auto, using(crate::proofs::Steps::pieces_next))]
-fn set(reader: &mut Reader<'_>, pieces: Pieces) -> Result<u16, Expected>
+// One piece or more. A closure calls `piece`, since a function of a crate of this repository can't be passed by its name
+// (`specs.contracts.fields.piece`: it has no file).
+fn set(reader: &mut Reader<'_>, pieces: PieceCount) -> Result<u16, Expected>
     ensures { finds result reader.new ≡ set_of pieces reader.old }
 {
-    reader.piece().ok_or(Expected::Set)?;
-    let mut mask = 0;
-    while let Some(piece) = reader.piece() {
-        mask = with_piece(pieces, mask, piece)?;
-        reader.step();
-    }
-    Ok(mask)
+    reader.run(
+        0,
+        Expected::Set,
+        |byte| piece(byte),
+        |mask, piece| with_piece(pieces, mask, piece),
+    )
 }
 
 // The set with a piece more, if the lot has it and the set does not have it yet.
-fn with_piece(pieces: Pieces, mask: u16, piece: u8) -> Result<u16, Expected>
+fn with_piece(pieces: PieceCount, mask: u16, piece: u8) -> Result<u16, Expected>
     ensures { result ≡ joined pieces mask piece }
 {
     if u32::from(piece) >= pieces.count() {

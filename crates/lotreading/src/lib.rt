@@ -22,7 +22,7 @@ mod pieces;
 pub type Bidders = UpTo<Row, 32>;
 
 // How many pieces a lot has, and what each bidder bids.
-#[derive(Clone, Copy)]
+#[derive(Clone, Copy, Debug, PartialEq, Eq)]
 pub struct Lot {
     pub pieces: u32,
     pub bidders: Bidders,

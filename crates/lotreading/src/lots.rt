@@ -9,7 +9,7 @@ ghost use Rattle.lotreading.specs.Values.{lot_of};
 use crate::bids::bidder;
 use crate::expected::Expected;
 use crate::parts::{blanks, ranged};
-use crate::pieces::Pieces;
+use crate::pieces::PieceCount;
 use crate::{Bidders, Lot};
 use bundles::{MOST_PIECES, Row};
 use reading::Reader;
@@ -26,7 +26,7 @@ pub fn lot(reader: &mut Reader<'_>) -> Result<Lot, Expected>
 }
 
 // How many pieces, and a colon.
-fn front(reader: &mut Reader<'_>) -> Result<Pieces, Expected>
+fn front(reader: &mut Reader<'_>) -> Result<PieceCount, Expected>
     ensures { finds result reader.new ≡ front_in reader.old }
 {
     blanks(reader);
@@ -34,13 +34,14 @@ fn front(reader: &mut Reader<'_>) -> Result<Pieces, Expected>
     blanks(reader);
     reader.byte(b':').map_err(|_| Expected::Colon)?;
     blanks(reader);
-    Ok(Pieces::new(pieces))
+    Ok(PieceCount::new(pieces))
 }
 
-// One bidder or more, to the end. This loop and that over bids differ in what they read, ask for and keep, and a trait for
-// these would be longer than a loop.
+// One bidder or more, to the end. One function for this loop and that over bids, with a closure that reads a thing and one
+// that goes over what parts two, was tried: its contract is about any type X of what a thing means, and a clause can't be
+// (`expected type Type 0, but this has type Type 1`). A trait that names that type would be longer than a loop.
 #[tactic(auto, using(crate::proofs::Several::several_steps))]
-fn bidders(reader: &mut Reader<'_>, pieces: Pieces) -> Result<Bidders, Expected>
+fn bidders(reader: &mut Reader<'_>, pieces: PieceCount) -> Result<Bidders, Expected>
     ensures { finds_as (λ b. all_held (held b)) result reader.new ≡ bidders_in pieces reader.old }
 {
     let mut bidders = Bidders::new();

@@ -44,7 +44,8 @@ pub fn at_blank(reader: &Reader<'_>) -> bool
         .is_some_and(|byte| is_passed(is_remark(false, byte), byte))
 }
 
-// One blank or more.
+// One blank or more. A gap in a line of calls differs in both of these calls: one function of the two would take each as a
+// closure, as `gap_of(reader, at_blank, blanks)`, and share no more than the `if`.
 pub fn gap(reader: &mut Reader<'_>) -> Result<(), Unreadable>
     ensures { seen result reader.new ≡ gap_in reader.old }
 {

@@ -3,13 +3,13 @@ ghost use Rattle.std.specs.Prelude.{◌≡◌, ◌≤◌, nat_lt};
 
 use std::marker::Model;
 
-#[derive(Clone, Copy)]
-pub struct Pieces {
+#[derive(Clone, Copy, Debug, PartialEq, Eq)]
+pub struct PieceCount {
     count: u32,
 }
 
 // A clause sees the number.
-impl Model for Pieces {
+impl Model for PieceCount {
     ghost use Rattle.std.specs.Prelude.{ℕ, ◌≤◌};
 
     ghost Value = { ℕ };
@@ -21,12 +21,12 @@ impl Model for Pieces {
     ghost inverse = { λ n. record { count = n } };
 }
 
-impl Pieces {
-    pub fn new(count: u32) -> Pieces
+impl PieceCount {
+    pub fn new(count: u32) -> PieceCount
         requires { count ≤ 16 }
         ensures { result ≡ count }
     {
-        Pieces { count }
+        PieceCount { count }
     }
 
     pub fn count(self) -> u32

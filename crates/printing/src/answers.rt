@@ -12,7 +12,7 @@ use std::fmt;
 use wire::Answer;
 
 // An answer, shown as its line.
-#[derive(Clone, Copy)]
+#[derive(Clone, Copy, Debug, PartialEq, Eq)]
 pub struct Line(pub Answer);
 
 impl fmt::Display for Line {

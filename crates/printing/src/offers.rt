@@ -10,7 +10,7 @@ use bundles::{Bid, Bundle};
 use std::fmt;
 
 // A set of pieces, shown as a row of digits, 0 to 9 and then a to f, in rising order.
-#[derive(Clone, Copy)]
+#[derive(Clone, Copy, Debug, PartialEq, Eq)]
 pub struct Pieces(pub Bundle);
 
 impl fmt::Display for Pieces {
@@ -36,7 +36,7 @@ fn write_piece<W: fmt::Write>(f: &mut fmt::Formatter<W>, set: Bundle, piece: u32
 }
 
 // A bid, shown as its set and its price.
-#[derive(Clone, Copy)]
+#[derive(Clone, Copy, Debug, PartialEq, Eq)]
 pub struct Offer(pub Bid);
 
 impl fmt::Display for Offer {

@@ -1,9 +1,10 @@
 -- One byte more of a line: what is left of it gives what was to be read. Assumes nothing.
-use Rattle.std.proofs.Common.{◌≡◌, ℕ, ◌+◌, ◌<◌, ◌≤◌, List, [], ◌∷◌, length, get_or, drop, None, Option, refl}
+use Rattle.std.proofs.Common.{◌≡◌, ℕ, ◌+◌, ◌<◌, ◌≤◌, List, [], ◌∷◌, length, get_or, drop, None, Option, Result, refl}
 use Rattle.std.proofs.lemmas.List.{at_drop_more, at_drop_all}
 use Rattle.auction.specs.Bids.{pick}
 use Rattle.reading.specs.Lines.{blank, byte, given, grown, next, skip, spelt, starts}
-use Rattle.reading.specs.Reads.{got, stuck, then}
+use Rattle.reading.specs.Reads.{got, then}
+use Rattle.reading.specs.Runs.{further, made}
 
 -- blanks, by their first byte
 pub skip_next : (bs : List ℕ) → skip bs ≡ pick (starts blank bs) (skip (drop 1 bs)) bs
@@ -22,7 +23,7 @@ module _ (ws : List ℕ) (i : ℕ) (bs : List ℕ) where
   spelt_end h = at_drop_all (λ w. spelt w bs) ws i h
 
 -- a number or a set, by its first byte
-pub grown_next : (sort : ℕ → Option ℕ) (more : ℕ → ℕ → Option ℕ) (n : ℕ) (bs : List ℕ) → grown sort more n bs ≡ given (given (next bs) None sort) (got n bs) (λ d. given (more n d) (stuck bs) (λ m. grown sort more m (drop 1 bs)))
+pub grown_next : {X D E : Type 0} (sort : ℕ → Option D) (more : X → D → Result X E) (n : X) (bs : List ℕ) → grown sort more n bs ≡ given (given (next bs) None sort) (made n bs) (λ d. further (more n d) bs (λ m. grown sort more m (drop 1 bs)))
 unfolding grown
 grown_next sort more n [] = refl
 grown_next sort more n (b ∷ bs) = refl

@@ -1,8 +1,10 @@
 -- The parts of a call's line: blanks, words, numbers, sets of pieces and bids. Assumes nothing: these are definitions.
-use Rattle.std.specs.Prelude.{ℕ, zero, suc, ◌+◌, ◌-◌, ◌*◌, ◌^◌, Bool, true, false, ◌&&◌, ◌||◌, List, [], ◌∷◌, drop, Some, None, Option, ◌==◌, bit_and, bit_or, nat_eq, nat_le, nat_lt}
+use Rattle.std.specs.Prelude.{ℕ, zero, suc, ◌+◌, ◌-◌, ◌*◌, ◌^◌, Bool, true, false, ◌&&◌, ◌||◌, List, [], ◌∷◌, drop, Some, None, Option, Ok, Err, Result, ◌==◌, bit_and, bit_or, nat_eq, nat_le, nat_lt}
 use Rattle.auction.specs.Bids.{Bid, Bids, pick}
 use Rattle.bundles.specs.Masks.{bits}
 use Rattle.reading.specs.Reads.{Read, got, stuck, then}
+use Rattle.reading.specs.Runs.{Run, further, halted, made, read_of}
+use Rattle.reading.specs.declared.reader.Unreadable.{Unreadable}
 
 -- what is made of a value, if there is one
 abbrev pub given : {A X : Type 0} → Option A → X → (A → X) → X
@@ -43,14 +45,18 @@ spelt (w ∷ ws) bs = then (byte w bs) (λ _ left. spelt ws left)
 abbrev pub end : List ℕ → Read (Unit {0})
 end bs = given (next (skip bs)) (got tt (skip bs)) (λ _. stuck (skip bs))
 
--- as long as the bytes are of a sort, each makes more of n; the first that can't does not fit
-unfoldable pub grown : (ℕ → Option ℕ) → (ℕ → ℕ → Option ℕ) → ℕ → List ℕ → Read ℕ
-grown sort more n [] = got n []
-grown sort more n (b ∷ bs) = given (sort b) (got n (b ∷ bs)) (λ d. given (more n d) (stuck (b ∷ bs)) (λ m. grown sort more m bs))
+-- as long as the bytes are of a sort, each makes more of n; at the first that can't it halts
+unfoldable pub grown : {X D E : Type 0} → (ℕ → Option D) → (X → D → Result X E) → X → List ℕ → Run X E
+grown sort more n [] = made n []
+grown sort more n (b ∷ bs) = given (sort b) (made n (b ∷ bs)) (λ d. further (more n d) (b ∷ bs) (λ m. grown sort more m bs))
 
--- one byte of the sort or more
-abbrev pub some_of : (ℕ → Option ℕ) → (ℕ → ℕ → Option ℕ) → List ℕ → Read ℕ
-some_of sort more bs = given (given (next bs) None sort) (stuck bs) (λ _. grown sort more 0 bs)
+-- one byte of the sort or more; e: there is none
+abbrev pub some_of : {X D E : Type 0} → (ℕ → Option D) → (X → D → Result X E) → X → E → List ℕ → Run X E
+some_of sort more n e bs = given (given (next bs) None sort) (halted e bs) (λ _. grown sort more n bs)
+
+-- as it can be made, or not
+abbrev pub if_any : {X : Type 0} → Option X → Result X Unreadable
+if_any o = given o (Err (record {})) (λ x. Ok x)
 
 -- a number in decimal digits, below 2 ^ 32
 abbrev pub digit : ℕ → Option ℕ
@@ -60,7 +66,7 @@ abbrev pub longer : ℕ → ℕ → Option ℕ
 longer n d = pick (nat_lt (10 * n + d) 4294967296) (Some (10 * n + d)) None
 
 abbrev pub number : List ℕ → Read ℕ
-number bs = some_of digit longer bs
+number bs = read_of (some_of digit (λ n d. if_any (longer n d)) 0 (record {}) bs)
 
 -- a set of pieces, none twice, as the bits of a number
 abbrev pub piece : ℕ → Option ℕ
@@ -70,7 +76,7 @@ abbrev pub larger : ℕ → ℕ → Option ℕ
 larger m p = pick (bit_and m (2 ^ p) == 0) (Some (bit_or m (2 ^ p))) None
 
 abbrev pub set_of : List ℕ → Read ℕ
-set_of bs = some_of piece larger bs
+set_of bs = read_of (some_of piece (λ m p. if_any (larger m p)) 0 (record {}) bs)
 
 abbrev pub field : List ℕ → Read ℕ
 field bs = then (gap bs) (λ _ left. number left)

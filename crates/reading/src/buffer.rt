@@ -46,7 +46,7 @@ impl BidBuffer {
     }
 
     #[tactic(auto, using(crate::proofs::Kept::as_many))]
-    pub(crate) fn is_full(&self) -> bool
+    pub fn is_full(&self) -> bool
         ensures full { result ≡ (length self.now == 255) }
         ensures within { length self.now ≤ 255 }
     {
@@ -64,7 +64,7 @@ impl BidBuffer {
 
     // The part of the bytes that the bids are.
     #[tactic(auto, using(crate::proofs::Kept::part_offers))]
-    pub(crate) fn bids(&self) -> Bids<'_>
+    pub fn bids(&self) -> Bids<'_>
         ensures { offers result ≡ self.now }
     {
         Bids {

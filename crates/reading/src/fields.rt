@@ -1,15 +1,14 @@
 // The parts of a call's line behind its first words: numbers, sets and bids.
-ghost use Rattle.std.specs.Prelude.{◌≡◌, ◌<◌, None};
+ghost use Rattle.std.specs.Prelude.{ℕ, ◌≡◌, ◌<◌, None, Some, Option, Result};
 ghost use Rattle.bundles.specs.Offers.{meant};
-ghost use Rattle.reading.specs.Lines.{bid, bid_list, comma, digit as digit_of, field, given, larger as larger_by, longer as longer_by, next, number as number_in, piece as piece_of, set_of, skip};
+ghost use Rattle.reading.specs.Lines.{bid, bid_list, comma, digit as digit_of, field, given, larger as larger_by, longer as longer_by, next, number as number_in, piece as piece_of, set_of, skip, some_of};
 ghost use Rattle.reading.specs.Readers.{seen, seen_as};
+ghost use Rattle.reading.specs.Runs.{Makes, Sorts, ran};
 
 use crate::buffer::BidBuffer;
 use crate::reader::{Reader, Unreadable};
 use bundles::{Bid, Bundle};
 
-// A number and a set are read by loops of one shape. A trait for what they differ in, what a byte is worth and what it makes of
-// what there is, would be as long as both.
 impl<'a> Reader<'a> {
     // The bids of a call, kept in the buffer in place of those that it had.
     #[tactic(auto, using(crate::proofs::Listing::list_steps))]
@@ -51,48 +50,74 @@ impl<'a> Reader<'a> {
     }
 
     // One digit or more.
-    #[tactic(auto, using(crate::proofs::Steps::grown_next))]
     pub fn number(&mut self) -> Result<u32, Unreadable>
         ensures { seen result self.new ≡ number_in self.old }
     {
-        self.digit().ok_or(Unreadable)?;
-        let mut number = 0;
-        while let Some(digit) = self.digit() {
-            number = longer(number, digit).ok_or(Unreadable)?;
-            self.step();
-        }
-        Ok(number)
-    }
-
-    fn digit(&self) -> Option<u32>
-        ensures { result ≡ given (next self.now) None digit_of }
-    {
-        char::from(self.peek()?).to_digit(10)
+        self.run(
+            0,
+            Unreadable,
+            digit,
+            |number, digit| longer(number, digit).ok_or(Unreadable),
+        )
     }
 
     // One piece or more.
-    #[tactic(auto, using(crate::proofs::Steps::grown_next))]
     fn set(&mut self) -> Result<u16, Unreadable>
         ensures { seen result self.new ≡ set_of self.old }
     {
-        self.piece().ok_or(Unreadable)?;
-        let mut mask = 0;
-        while let Some(piece) = self.piece() {
-            mask = larger(mask, piece).ok_or(Unreadable)?;
-            self.step();
-        }
-        Ok(mask)
+        self.run(
+            0,
+            Unreadable,
+            piece,
+            |mask, piece| larger(mask, piece).ok_or(Unreadable),
+        )
     }
 
-    // By hand, since std's `to_digit(16)` takes upper-case letters too.
+    // One byte of a sort or more, each of which makes more of what there is; `none` where there is none.
+    #[tactic(auto, using(crate::proofs::Steps::grown_next))]
+    pub fn run<T: Copy, D: Copy, E: Copy, S: Fn(u8) -> Option<D>, M: Fn(T, D) -> Result<T, E>>(
+        &mut self,
+        start: T,
+        none: E,
+        sort: S,
+        more: M,
+    ) -> Result<T, E>
+        requires sorts { S.IsAlwaysCallable sort }
+        requires grows { (n : T) (b : ℕ) (d : D) → b < 256 → S.post sort b (Some d) → M.pre more n d }
+        ensures { (sort_of : ℕ → Option D) (more_of : T → D → Result T E) → Sorts (S.post sort) sort_of → Makes (M.post more) more_of → ran result self.new ≡ some_of sort_of more_of start none self.old }
+    {
+        self.peek().and_then(&sort).ok_or(none)?;
+        let mut made = start;
+        while let Some(part) = self.peek().and_then(&sort) {
+            made = more(made, part)?;
+            self.step();
+        }
+        Ok(made)
+    }
+
+    // The piece that comes next, if one does.
     pub fn piece(&self) -> Option<u8>
         ensures { result ≡ given (next self.now) None piece_of }
     {
-        match self.peek()? {
-            byte @ b'0'..=b'9' => Some(byte - b'0'),
-            byte @ b'a'..=b'f' => Some(byte - b'a' + 10),
-            _ => None,
-        }
+        self.peek().and_then(piece)
+    }
+}
+
+// What the byte is as a digit.
+fn digit(byte: u8) -> Option<u32>
+    ensures { result ≡ digit_of byte }
+{
+    char::from(byte).to_digit(10)
+}
+
+// What the byte is as a piece. By hand, since std's `to_digit(16)` takes upper-case letters too.
+pub fn piece(byte: u8) -> Option<u8>
+    ensures { result ≡ piece_of byte }
+{
+    match byte {
+        b'0'..=b'9' => Some(byte - b'0'),
+        b'a'..=b'f' => Some(byte - b'a' + 10),
+        _ => None,
     }
 }
 

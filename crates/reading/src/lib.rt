@@ -7,7 +7,7 @@ ghost use Rattle.reading.specs.Lines.{silent};
 ghost use Rattle.wire.specs.Meaning.{read_as};
 
 pub use buffer::BidBuffer;
-pub use fields::larger;
+pub use fields::{larger, piece};
 pub use reader::{Reader, Unreadable};
 use wire::Call;
 

@@ -120,9 +120,9 @@ impl<'a> Reader<'a> {
         ensures { seen result self.new ≡ end self.old }
     {
         self.blanks();
-        match self.peek() {
-            None => Ok(()),
-            Some(_) => Err(Unreadable),
+        if self.peek().is_some() {
+            return Err(Unreadable);
         }
+        Ok(())
     }
 }

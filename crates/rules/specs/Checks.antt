@@ -5,14 +5,14 @@ use Rattle.auction.specs.House.{Call, opens, bids, ticks, my_bids, lot_is, refus
 use Rattle.bundles.specs.Offers.{all_meant}
 use Rattle.bundles.specs.Rows.{held}
 use Rattle.keeper.specs.Keeping.{next_in, place_in, says_in, turned_in}
-use Rattle.ledger.specs.Houses.{Stands, header_in, limits_in, with_lot, with_now}
+use Rattle.ledger.specs.Houses.{Stands, limits_in, with_lot, with_now}
 use Rattle.ledger.specs.Layout.{house_words, lot_at, now_at}
 use Rattle.ledger.specs.Words.{bids_at, with_row}
-use Rattle.ledger.specs.declared.layout.RowPlace.{RowPlace}
 use Rattle.ledger.specs.declared.lots.Lot.{Lot}
 use Rattle.ledger.specs.declared.standing.Header.{Header}
 use Rattle.wire.specs.Refusals.{refusal_number}
 use Rattle.rules.specs.declared.bidding.Taking.{Taking}
+use Rattle.rules.specs.declared.showing.Showing.{Showing}
 use Rattle.rules.specs.declared.turned.Turned.{Turned}
 
 -- the call is turned away, by this refusal and at this place: that is what the house says, and its words stay as they are
@@ -52,15 +52,15 @@ pub record Ticks (m : List ℕ) (n : ℕ) (t : ℕ) : Type 0 where
   pub said : says_in m (ticks n) ≡ number t
   pub after : next_in m (ticks n) ≡ with_now m t
 
--- a bidder's bids on a lot can be shown, and have this place
-pub record Shows (m : List ℕ) (k b : ℕ) (place : RowPlace) : Type 0 where
+-- a bidder's bids on a lot can be shown, in a house with this header, and have this place
+pub record Shows (m : List ℕ) (k b : ℕ) (s : Showing) : Type 0 where
   pub taken : turned_in m (my_bids k b) ≡ 0
-  pub stands : Stands m (header_in m)
-  pub limits : place.limits ≡ limits_in m
-  pub lot : place.lot ≡ k
-  pub bidder : place.bidder ≡ b
-  pub room : house_words place.limits ≤ length m
-  pub said : says_in m (my_bids k b) ≡ list (bids_at place.limits m k b)
+  pub stands : Stands m s.header
+  pub limits : s.place.limits ≡ limits_in m
+  pub lot : s.place.lot ≡ k
+  pub bidder : s.place.bidder ≡ b
+  pub room : house_words s.place.limits ≤ length m
+  pub said : says_in m (my_bids k b) ≡ list (bids_at s.place.limits m k b)
   pub after : next_in m (my_bids k b) ≡ m
 
 -- a lot can be told of, and this is it

@@ -11,13 +11,14 @@ use ledger::{RowPlace, lot_of, stands};
 use wire::{Bids, Refusal};
 
 // The bids that are taken, and where they belong.
-#[derive(Clone, Copy)]
+#[derive(Clone, Copy, Debug, PartialEq, Eq)]
 pub struct Taking {
     pub place: RowPlace,
     pub row: Row,
 }
 
-// The bids, decoded, which take the place of those before.
+// The bids, decoded, which take the place of those before. Lot and bidder are two numbers, as in the call's variants and the written
+// house's calls: a struct would be made of Call::Bid { lot, bidder, .. } only to be taken apart in RowPlace { limits, lot, bidder }.
 pub fn may_bid(memory: &[u32], lot: u32, bidder: u32, bids: Bids<'_>) -> Result<Taking, Turned>
     ensures { MatchResult result (λ t. Takes memory.now lot bidder (offers bids.entry) t) (λ t. Refuses memory.now (bids_on lot bidder (offers bids.entry)) t) }
 {

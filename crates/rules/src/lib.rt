@@ -3,7 +3,7 @@
 
 pub use bidding::{Taking, may_bid};
 pub use opening::may_open;
-pub use showing::may_show;
+pub use showing::{Showing, may_show};
 pub use telling::may_tell;
 pub use ticking::may_tick;
 pub use turned::Turned;

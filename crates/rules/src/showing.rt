@@ -4,12 +4,18 @@ ghost use Rattle.rules.specs.Checks.{Refuses, Shows};
 ghost use Rattle.std.specs.Result.{MatchResult};
 
 use crate::turned::Turned;
-use ledger::{RowPlace, stands};
+use ledger::{Header, RowPlace, stands};
 use wire::Refusal;
 
-// Where the bids are.
-pub fn may_show(memory: &[u32], lot: u32, bidder: u32) -> Result<RowPlace, Turned>
-    ensures { MatchResult result (λ place. Shows memory.now lot bidder place) (λ t. Refuses memory.now (my_bids lot bidder) t) }
+// The header, and where the bids are.
+#[derive(Clone, Copy, Debug, PartialEq, Eq)]
+pub struct Showing {
+    pub header: Header,
+    pub place: RowPlace,
+}
+
+pub fn may_show(memory: &[u32], lot: u32, bidder: u32) -> Result<Showing, Turned>
+    ensures { MatchResult result (λ s. Shows memory.now lot bidder s) (λ t. Refuses memory.now (my_bids lot bidder) t) }
 {
     let header = stands(memory).ok_or(Refusal::NoHouse)?;
     if bidder >= header.limits.bidders {
@@ -18,9 +24,10 @@ pub fn may_show(memory: &[u32], lot: u32, bidder: u32) -> Result<RowPlace, Turne
     if lot >= header.count {
         return Err(Refusal::NoSuchLot.into());
     }
-    Ok(RowPlace {
+    let place = RowPlace {
         limits: header.limits,
         lot,
         bidder,
-    })
+    };
+    Ok(Showing { header, place })
 }

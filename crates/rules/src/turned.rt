@@ -1,10 +1,13 @@
 // A call that is turned away: why, and at which place of it.
 ghost use Rattle.std.specs.Prelude.{◌≡◌};
 ghost use Rattle.auction.specs.House.{refused};
+ghost use Rattle.ledger.specs.declared.opening.Trouble.TheVariants.{BadLimits, ShortMemory};
 ghost use Rattle.wire.specs.Meaning.{said};
+ghost use Rattle.wire.specs.declared.answer.Refusal.TheVariants.{NoHouse};
 ghost use Rattle.wire.specs.Refusals.{refusal_number};
 ghost use Rattle.rules.specs.Places.{refusal_place};
 
+use ledger::Trouble;
 use wire::{Answer, Refusal};
 
 #[derive(Clone, Copy, Debug, PartialEq, Eq)]
@@ -24,6 +27,22 @@ impl From<Refusal> for Turned {
             _ => 0,
         };
         Turned { refusal, place }
+    }
+}
+
+// Where no house is opened: limits out of range are at place 1, and less memory than they ask for is at place 0.
+impl From<Trouble> for Turned {
+    ghost from_gives = { λ trouble turned. (turned.refusal ≡ NoHouse) × (turned.place ≡ (elim trouble [ BadLimits ↦ 1 | ShortMemory ↦ 0 ])) };
+
+    fn from(trouble: Trouble) -> Turned {
+        let place = match trouble {
+            Trouble::BadLimits => 1,
+            Trouble::ShortMemory => 0,
+        };
+        Turned {
+            refusal: Refusal::NoHouse,
+            place,
+        }
     }
 }
 

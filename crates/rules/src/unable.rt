@@ -11,13 +11,13 @@ use wire::Refusal;
 pub fn unreadable(memory: &[u32], place: usize) -> Turned
     ensures { Refuses memory.now (garbled place) result }
 {
-    match stands(memory) {
-        Some(_) => Turned {
+    stands(memory).map_or(
+        Refusal::NoHouse.into(),
+        |_| Turned {
             refusal: Refusal::Unreadable,
             place: place as u64,
         },
-        None => Refusal::NoHouse.into(),
-    }
+    )
 }
 
 // A lot's result, or what it brings, of whichever lot and bidder.
@@ -25,8 +25,7 @@ pub fn not_yet(memory: &[u32]) -> Turned
     ensures result { (k b : ℕ) → Refuses memory.now (result_for k b) result }
     ensures brings { (k : ℕ) → Refuses memory.now (brings k) result }
 {
-    match stands(memory) {
-        Some(_) => Refusal::OutOfRange.into(),
-        None => Refusal::NoHouse.into(),
-    }
+    stands(memory)
+        .map_or(Refusal::NoHouse, |_| Refusal::OutOfRange)
+        .into()
 }

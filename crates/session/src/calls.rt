@@ -5,7 +5,7 @@ ghost use Rattle.session.specs.Deeds.{Does, Done};
 ghost use Rattle.wire.specs.Answers.{answer_bytes};
 ghost use Rattle.wire.specs.Bytes.{Written};
 ghost use Rattle.wire.specs.Calls.{call_in};
-ghost use Rattle.wire.specs.Meaning.{read_as, asked as asked_as};
+ghost use Rattle.wire.specs.Meaning.{read_as};
 
 use crate::deeds::{bid, let_ticks_go_by, open_lot, show_bids, tell_of_lot};
 use rules::{Turned, not_yet, unreadable};
@@ -26,17 +26,13 @@ pub fn call(memory: &mut [u32], request: &[u8], out: &mut [u8; 256]) -> usize
 pub fn answer(memory: &mut [u32], asked: Result<Call<'_>, usize>) -> Answer
     ensures { Done memory.old (read_as asked.entry) memory.new result }
 {
-    let told = match asked {
-        Ok(call) => answer_call(memory, call),
-        Err(place) => Err(unreadable(memory, place)),
-    };
-    told.unwrap_or_else(Answer::from)
+    answer_call(memory, asked).unwrap_or_else(Answer::from)
 }
 
-fn answer_call(memory: &mut [u32], asked: Call<'_>) -> Result<Answer, Turned>
-    ensures { Does memory.old (asked_as asked.entry) memory.new result }
+fn answer_call(memory: &mut [u32], asked: Result<Call<'_>, usize>) -> Result<Answer, Turned>
+    ensures { Does memory.old (read_as asked.entry) memory.new result }
 {
-    match asked {
+    match asked.map_err(|place| unreadable(memory, place))? {
         Call::Open { pieces, until } => open_lot(memory, pieces, until),
         Call::Bid { lot, bidder, bids } => bid(memory, lot, bidder, bids),
         Call::Ticks { ticks } => let_ticks_go_by(memory, ticks),

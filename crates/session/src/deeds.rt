@@ -4,7 +4,7 @@ ghost use Rattle.session.specs.Deeds.{Does};
 ghost use Rattle.wire.specs.Offers.{offers};
 
 use ledger::{Lot, add_lot, bids_of, replace_bids, set_now};
-use rules::{Taking, Turned, may_bid, may_open, may_show, may_tell, may_tick};
+use rules::{Showing, Taking, Turned, may_bid, may_open, may_show, may_tell, may_tick};
 use wire::{Answer, Bids};
 
 pub fn open_lot(memory: &mut [u32], pieces: u32, until: u32) -> Result<Answer, Turned>
@@ -35,7 +35,7 @@ pub fn let_ticks_go_by(memory: &mut [u32], ticks: u32) -> Result<Answer, Turned>
 pub fn show_bids(memory: &[u32], lot: u32, bidder: u32) -> Result<Answer, Turned>
     ensures { Does memory.now (my_bids lot bidder) memory.now result }
 {
-    let place = may_show(memory, lot, bidder)?;
+    let Showing { place, .. } = may_show(memory, lot, bidder)?;
     Ok(Answer::Bids(bids_of(memory, place)))
 }
 

@@ -5,8 +5,9 @@ ghost use Rattle.ledger.specs.Opening.{after_opening, opening};
 ghost use Rattle.ledger.specs.declared.opening.Trouble.TheVariants.{BadLimits, ShortMemory};
 ghost use Rattle.wire.specs.Meaning.{said};
 
-use ledger::{Limits, Trouble};
-use wire::{Answer, Refusal};
+use ledger::Limits;
+use rules::Turned;
+use wire::Answer;
 
 // Makes the front of the memory a new house and leaves what lies behind; or nothing changes: limits out of range are refusal
 // 3 at place 1, and less memory than they ask for is 3 at place 0.
@@ -14,18 +15,7 @@ pub fn open(limits: Limits, memory: &mut [u32]) -> Result<(), Answer>
     ensures words { memory.new ≡ after_opening limits memory.old }
     ensures cases { MatchResult result (λ u. opening limits memory.old ≡ Ok u) (λ a. elim (opening limits memory.old) [ Ok u ↦ ⊥ | Err e ↦ elim e [ BadLimits ↦ said a ≡ refused 3 1 | ShortMemory ↦ said a ≡ refused 3 0 ] ]) }
 {
-    ledger::open(limits, memory).map_err(no_house)
-}
-
-fn no_house(trouble: Trouble) -> Answer
-    ensures { said result ≡ refused 3 (elim trouble [ BadLimits ↦ 1 | ShortMemory ↦ 0 ]) }
-{
-    let place = match trouble {
-        Trouble::BadLimits => 1,
-        Trouble::ShortMemory => 0,
-    };
-    Answer::Refused {
-        refusal: Refusal::NoHouse,
-        place,
-    }
+    ledger::open(limits, memory)
+        .map_err(Turned::from)
+        .map_err(Answer::from)
 }

@@ -9,3 +9,4 @@ pub mod Aparts
 pub mod Lones
 pub mod Turns
 mod Made
+pub mod Gathered

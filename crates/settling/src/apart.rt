@@ -32,7 +32,7 @@ impl Party<'_> {
                     paid: 0,
                 };
             } else if !self.wants[bidder].shares(done) {
-                let group = self.group_of(bidder);
+                let group = self.group_of(self.wants[bidder]);
                 let of_group = self.share_group(tables, group);
                 self.put_group(group, &of_group, &mut shares);
                 done = done.joined(group);

@@ -7,8 +7,7 @@ use bundles::{Bundle, Row};
 use std::array;
 
 // The bidders of a lot and what each wants of the pieces that there are; behind the last one nothing. What they want stands beside their rows of bids and
-// not with them, since the rows are lent memory, and the solver takes them so. A bidder's number is below 32 wherever one is asked for: a type for that would
-// be made and taken apart at each index.
+// not with them, since the rows are lent memory, and the solver takes them so.
 #[derive(Clone, Copy)]
 pub struct Party<'a> {
     pub whole: Bundle,
@@ -33,12 +32,12 @@ impl Party<'_> {
         Some(Party { whole, rows, wants })
     }
 
-    // The pieces of a bidder's group: whoever wants one of them wants no others.
-    pub fn group_of(&self, bidder: usize) -> Bundle
-        requires { bidder < 32 }
-        ensures { GroupPieces self.now.wants self.now.whole.mask (want self.now.wants bidder) result.mask }
+    // The pieces of the group of who wants these: whoever wants one of them wants no others. At most one round for each piece, since each but the last adds one.
+    pub fn group_of(&self, wanted: Bundle) -> Bundle
+        requires { In wanted.mask self.now.whole.mask }
+        ensures { GroupPieces self.now.wants self.now.whole.mask wanted.mask result.mask }
     {
-        let mut pieces = self.wants[bidder];
+        let mut pieces = wanted;
         loop {
             let more = self.grow(pieces);
             if more == pieces {
@@ -75,10 +74,7 @@ fn wants_of_all(rows: &[Row]) -> [Bundle; 32]
 fn wants_at(rows: &[Row], bidder: usize) -> Bundle
     ensures { result.mask ≡ wants_in (slice_index_or (map held rows.now) bidder []) }
 {
-    match rows.get(bidder) {
-        Some(row) => wants_of(row),
-        None => Bundle::default(),
-    }
+    rows.get(bidder).map_or(Bundle::default(), wants_of)
 }
 
 // What a bidder wants: the pieces of all its bids.

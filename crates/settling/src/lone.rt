@@ -20,12 +20,12 @@ impl Party<'_> {
         ensures wanted { result ≡ false → want self.now.wants bidder ≢ 0 }
     {
         let mine = self.wants[bidder];
-        for (other, wants) in self.wants.iter().enumerate() {
-            if other != bidder && wants.shares(mine) {
-                return false;
-            }
-        }
-        true
+        !self
+            .wants
+            .iter()
+            .enumerate()
+            .filter(|&(other, _)| other != bidder)
+            .any(|(_, wants)| wants.shares(mine))
     }
 }
 

@@ -12,7 +12,7 @@ use bundles::{Bundle, MOST_PIECES, Row};
 use solver::{Shares, share_out};
 
 // By bidder what is taken of its bids and what it pays; the prices of all bids taken, and all that is paid.
-#[derive(Clone, Copy)]
+#[derive(Clone, Copy, Debug, PartialEq, Eq)]
 pub struct Settlement {
     pub shares: Shares,
     pub comes_to: u64,
@@ -20,6 +20,7 @@ pub struct Settlement {
 }
 
 // Settles a lot of so many pieces, of which no bid can name one beyond the sixteenth.
+// Room is asked for here and at each step below, for that step's own pieces, the lot's or a group's: a type of words with room would be made anew for each.
 pub fn settle(tables: &mut [u32], pieces: u32, rows: &[Row]) -> Settlement
     requires { RoomToPay (length tables.old) (min pieces 16) (length rows.now) }
     ensures settled { Settled (all_held rows.now) (all pieces) result }

@@ -42,6 +42,7 @@ impl<'w> Tables<'w, '_> {
     pub fn allocate(&self) -> [Option<Taken>; 32]
         ensures { Allocated (all_held self.now.rows.now) (bits self.now.pieces self.now.whole) result }
     {
+        // An array of its own and no `Shares`: who gets what goes by all bids, and what is paid by those that are kept, so two tables of bidders are gone through.
         let mut taken = [None; 32];
         let mut free = self.whole;
         for (bidder, got) in taken[..self.rows.len()].iter_mut().enumerate() {
@@ -69,6 +70,8 @@ impl<'w> Tables<'w, '_> {
 }
 
 // The place of the first bid that fits what is free and comes, with what there is for the rest, to the most.
+// A table is a bare slice here and in the other functions on one, with `Small` and its length in their contracts: a struct of a slice and that fact would have to
+// be made anew of lent words, with that fact shown, wherever one is written and then read: in `fill_tables`, and in turn in `pay_all`.
 fn first_good(bids: &[Bid], rest: &[u32], free: usize, most: u64) -> Option<usize>
     requires in_rest { 2 * free + 1 < length rest.now }
     requires small { Small rest.now }
@@ -92,8 +95,5 @@ fn left_over(free: usize, got: Option<Taken>) -> usize
     ensures less { (n : ℕ) → bits n result ≡ less (bits n free) (bits 16 (pieces_of got)) }
     ensures no_more { result ≤ free }
 {
-    match got {
-        Some(taken) => free & !usize::from(taken.bid.on.mask),
-        None => free,
-    }
+    got.map_or(free, |taken| free & !usize::from(taken.bid.on.mask))
 }

@@ -7,6 +7,7 @@ use crate::sums::raise_sum;
 use bundles::Bid;
 
 // Makes a bidder's table of the next one's: for each set the most that comes of it with one at most of these bids, of which there may be any number.
+// Two slices and no struct of both, here and where a sum is raised: the one is written while the other is read.
 pub fn fill(to: &mut [u32], from: &[u32], bids: &[Bid])
     requires same { length to.old ≡ length from.now }
     requires small { Small from.now }
@@ -18,7 +19,6 @@ pub fn fill(to: &mut [u32], from: &[u32], bids: &[Bid])
     }
 }
 
-// Two slices and no struct of both, here and where a sum is raised: the one is written while the other is read.
 // For each set that holds the bid's pieces: what it offers with what there is for the rest of the set, if that is more than there was.
 // As many steps as there are sets that hold it: a half for each of its pieces.
 fn offer(to: &mut [u32], from: &[u32], bid: Bid)

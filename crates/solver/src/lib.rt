@@ -4,7 +4,9 @@
 
 pub use choosing::Tables;
 pub use outcome::{Share, Shares, Taken};
+pub use paying::price_of;
 pub use sharing::share_out;
+pub use sums::words_for;
 pub use welfare::fill_tables;
 
 pub mod choosing;

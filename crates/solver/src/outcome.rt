@@ -4,7 +4,7 @@ ghost use Rattle.std.specs.Prelude.{◌≤◌};
 use bundles::Bid;
 
 // A bid that is taken, and its place among the bids of its bidder, from 1 on.
-#[derive(Clone, Copy)]
+#[derive(Clone, Copy, Debug, PartialEq, Eq)]
 pub struct Taken {
     pub place: usize,
     pub bid: Bid,
@@ -12,7 +12,7 @@ pub struct Taken {
 }
 
 // What a bidder gets, one of its bids at most, and what it pays. By default nothing.
-#[derive(Clone, Copy, Default)]
+#[derive(Clone, Copy, Debug, Default, PartialEq, Eq)]
 pub struct Share {
     pub taken: Option<Taken>,
     pub paid: u64,

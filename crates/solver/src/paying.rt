@@ -1,9 +1,9 @@
 // What is paid: what the others could have had without a winner, less what they have (the Clarke payment). What they could have had is not reckoned
 // anew for each: it is the most, over all ways to part the pieces, of what those before the winner and those behind it have.
-ghost use Rattle.std.specs.Prelude.{◌≡◌, ◌+◌, ◌-◌, ◌*◌, ◌<◌, ◌≤◌, length};
+ghost use Rattle.std.specs.Prelude.{◌≡◌, ◌+◌, ◌-◌, ◌*◌, ◌^◌, ◌<◌, ◌≤◌, length};
 ghost use Rattle.bundles.specs.Masks.{bits};
 ghost use Rattle.bundles.specs.Rows.{all_held};
-ghost use Rattle.solver.specs.Choosing.{price_of};
+ghost use Rattle.solver.specs.Choosing.{price_of as price_taken};
 ghost use Rattle.solver.specs.Paying.{Charged, Joined};
 ghost use Rattle.solver.specs.Tables.{Small, table_words};
 
@@ -42,13 +42,22 @@ impl Tables<'_, '_> {
 
 // What the others could have had without a bidder, less what they have of all that is had.
 fn payment(without: u64, most: u64, taken: Option<Taken>) -> u64
-    ensures { result ≡ without - (most - price_of taken) }
+    ensures { result ≡ without - (most - price_taken taken) }
 {
-    let price = taken.map_or(0, |taken| u64::from(taken.bid.price));
+    let price = price_of(taken);
     without.saturating_sub(most.saturating_sub(price))
 }
 
+// The price of what is taken, and 0 where nothing is.
+pub fn price_of(taken: Option<Taken>) -> u64
+    ensures price { result ≡ price_taken taken }
+    ensures small { result < 2 ^ 32 }
+{
+    taken.map_or(0, |taken| u64::from(taken.bid.price))
+}
+
 // The most that two groups of bidders, each with its table, have together of all that there is. One step for each set.
+// A set is its own place in a table, so it is a `usize` here, as `free` and `whole` are where pieces are chosen.
 fn join(first: &[u32], second: &[u32], whole: usize) -> u64
     requires fits { (length second.now ≡ length first.now) × (2 * whole + 1 < length first.now) }
     requires small { (Small first.now) × (Small second.now) }

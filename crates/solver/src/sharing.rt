@@ -7,7 +7,7 @@ ghost use Rattle.solver.specs.Sharing.{AllKept, Shared};
 
 use crate::choosing::Tables;
 use crate::outcome::Shares;
-use crate::sums::words_of;
+use crate::sums::words_for;
 use crate::welfare::fill_tables;
 use bundles::Row;
 
@@ -23,7 +23,7 @@ pub fn share_out(
     requires { (RoomToPay (length tables.old) pieces (length rows.now)) × ((whole < 2 ^ pieces) × (AllKept (all_held kept.now) (all_held rows.now))) }
     ensures { Shared (all_held rows.now) (bits pieces whole) result }
 {
-    let end = (rows.len() + 1) * words_of(pieces);
+    let end = words_for(pieces, rows.len());
     let (words, spare) = tables.split_at_mut(end);
     fill_tables(words, pieces, kept);
     let all = Tables {

@@ -2,6 +2,7 @@
 ghost use Rattle.std.specs.Prelude.{◌≡◌, ◌+◌, ◌-◌, ◌*◌, ◌^◌, ◌<◌, ◌≤◌, length};
 ghost use Rattle.auction.specs.Bids.{larger as greater};
 ghost use Rattle.solver.specs.Tables.{Put, sum_in, table_words};
+ghost use Rattle.solver.specs.Welfare.{table_at};
 
 const WORD: u64 = 1 << 32;
 
@@ -11,6 +12,14 @@ pub fn words_of(pieces: u32) -> usize
     ensures { result ≡ table_words pieces }
 {
     2usize << pieces
+}
+
+// How many words the tables of so many bidders have, with the one behind the last.
+pub fn words_for(pieces: u32, bidders: usize) -> usize
+    requires { (pieces ≤ 16) × (bidders ≤ 32) }
+    ensures { result ≡ table_at pieces (bidders + 1) }
+{
+    (bidders + 1) * words_of(pieces)
 }
 
 pub fn get_sum(table: &[u32], set: usize) -> u64

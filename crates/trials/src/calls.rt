@@ -1,4 +1,5 @@
 // Calls as bytes: each call both ways, every cut-off beginning, one byte too many, unknown calls, and 0, 16 and 255 bids.
+use crate::house::no_beginning_is_whole;
 use bundles::{Bid, Bundle};
 use std::alloc::Global;
 use std::process::Abort;
@@ -35,13 +36,8 @@ fn written(rt: &impl Abort, call: Call<'_>, bytes: &[u8]) -> Result<(), Fail> {
 
 // Reads the bytes and compares what is written of them.
 fn both_ways(rt: &impl Abort, bytes: &[u8]) -> Result<(), Fail> {
-    match read_call(bytes) {
-        Ok(call) => written(rt, call, bytes),
-        Err(place) => {
-            assert_eq!(rt; place, bytes.len(), "is a call");
-            Ok(())
-        },
-    }
+    let call = read_call(bytes).map_err(|_| Fail::new("is no call"))?;
+    written(rt, call, bytes)
 }
 
 // The place at which bytes cease to be a call.
@@ -49,11 +45,9 @@ fn place(bytes: &[u8]) -> Option<usize> {
     read_call(bytes).err()
 }
 
-// No beginning is a call, and one byte more is one too many. The loop is over lengths, and no index of the bytes.
+// No beginning is a call, and one byte more is one too many.
 fn only_whole(rt: &impl Abort, heap: Global, bytes: &[u8]) -> Result<(), Fail> {
-    for n in 0..bytes.len() {
-        assert_eq!(rt; place(&bytes[..n]), Some(n));
-    }
+    no_beginning_is_whole(rt, bytes, place);
     let mut longer = bytes.to_vec(heap)?;
     longer.push(0)?;
     assert_eq!(rt; place(longer.as_slice()), Some(bytes.len()));

@@ -11,21 +11,14 @@ const LIMITS: Limits = Limits {
     each: 1,
 };
 
-// A lot by its closing, in an order of the test's own: that of `Closing` is what is tested.
-#[derive(Clone, Copy, PartialEq, Eq, PartialOrd, Ord)]
-struct Pair {
-    until: u32,
-    number: u32,
-}
-
-// Sixty-four lots, four of which close in each of sixteen ticks, sorted by when they close.
-fn lots(rt: &impl Abort, heap: Global, memory: &mut [u32]) -> Result<Vec<Pair>, Fail> {
+// Sixty-four lots, four of which close in each of sixteen ticks, sorted by when they close: the tick of each, and its number.
+fn lots(rt: &impl Abort, heap: Global, memory: &mut [u32]) -> Result<Vec<(u32, u32)>, Fail> {
     let mut all = Vec::new(heap);
     for number in 0..64u32 {
         let until = 1 + (number * 37) % 16;
         let line = format!(in heap; "open 1 {until}")?;
         takes(rt, memory, line.as_bytes())?;
-        all.push(Pair { until, number })?;
+        all.push((until, number))?;
     }
     all.sort()?;
     Ok(all)
@@ -38,10 +31,10 @@ fn lots_are_gone_through_as_they_close(rt: HostRuntime) -> Result<(), Fail> {
     assert!(rt; next_closing(memory.as_slice(), None).is_none(), "no lots");
     let sorted = lots(&rt, heap, memory.as_mut_slice())?;
     let mut at: Option<Closing> = None;
-    for pair in sorted.iter() {
+    for &(until, number) in sorted.iter() {
         let next = next_closing(memory.as_slice(), at).ok_or("a lot is missing")?;
-        assert_eq!(rt; next.until, pair.until);
-        assert_eq!(rt; next.number, pair.number);
+        assert_eq!(rt; next.until, until);
+        assert_eq!(rt; next.number, number);
         at = Some(next);
     }
     assert!(rt;

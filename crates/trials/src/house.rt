@@ -1,5 +1,6 @@
-// A house in memory of its own, and what it answers to lines: what the tests share.
+// What the tests share: a house in memory of its own, what it answers to lines, and how an answer is shown.
 use ledger::Limits;
+use printing::Line;
 use reading::{BidBuffer, read_line};
 use session::{answer, open};
 use std::alloc::Global;
@@ -27,5 +28,22 @@ pub fn takes(rt: &impl Abort, memory: &mut [u32], line: &[u8]) -> Result<(), Fai
             Ok(())
         },
         _ => Ok(()),
+    }
+}
+
+// The answer is shown as this line.
+pub fn shown(rt: &impl Abort, heap: Global, answer: Answer, text: &str) -> Result<(), Fail> {
+    let line = Line(answer);
+    let written = format!(in heap; "{line}")?;
+    assert!(rt; written.as_str() == text);
+    Ok(())
+}
+
+// Each beginning of the bytes ends too soon, at its end. The loop is over lengths, and no index of the bytes.
+pub fn no_beginning_is_whole<F: Fn(&[u8]) -> Option<usize>>(rt: &impl Abort, bytes: &[u8], place: F)
+    requires { F.IsAlwaysCallable place }
+{
+    for n in 0..bytes.len() {
+        assert_eq!(rt; place(&bytes[..n]), Some(n));
     }
 }

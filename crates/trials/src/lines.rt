@@ -1,6 +1,6 @@
 // Lines: each call from its line, blanks and digits of every kind, places, the most bids, and each answer as its line.
+use crate::house::shown;
 use bundles::{Bid, Bundle, Row};
-use printing::Line;
 use reading::{BidBuffer, is_silent, read_line};
 use std::alloc::Global;
 use std::process::Abort;
@@ -140,13 +140,6 @@ fn remarks_and_empty_lines_are_silent(rt: HostRuntime) {
     assert!(rt; is_silent(b"  # lot 0"));
     assert!(rt; !is_silent(b"lot 0 # a remark behind a call is none"));
     assert!(rt; !is_silent(b"x"));
-}
-
-fn shown(rt: &impl Abort, heap: Global, answer: Answer, text: &str) -> Result<(), Fail> {
-    let line = Line(answer);
-    let written = format!(in heap; "{line}")?;
-    assert!(rt; written.as_str() == text);
-    Ok(())
 }
 
 #[test]

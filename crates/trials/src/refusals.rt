@@ -18,6 +18,7 @@ fn house_for(heap: Global, lots: u32, bidders: u32, each: u32) -> Result<Vec<u32
     )
 }
 
+// By its number and its place, as the list of refusals has them.
 fn refuses(
     rt: &impl Abort,
     memory: &mut [u32],

@@ -1,7 +1,6 @@
 // Bids in the place of others: long by short, short by long, by none; and no trace of what was there.
-use crate::house::{asked, house};
+use crate::house::{asked, house, shown};
 use ledger::Limits;
-use printing::Line;
 use std::alloc::Global;
 use std::process::Abort;
 use std::test::Fail;
@@ -20,10 +19,7 @@ fn says(
     line: &[u8],
     text: &str,
 ) -> Result<(), Fail> {
-    let said = Line(asked(memory, line));
-    let written = format!(in heap; "{said}")?;
-    assert!(rt; written.as_str() == text);
-    Ok(())
+    shown(rt, heap, asked(memory, line), text)
 }
 
 #[test]

@@ -1,4 +1,4 @@
-// The plain check of all ways to give pieces away: bidder by bidder and bid by bid, with no tables. Tests compare the solver with it.
+// The plain check of all ways to give pieces away: bidder by bidder and bid by bid, with no tables. Tests that are to come compare the solver with it.
 #![tactic(auto)]
 
 ghost use Rattle.std.specs.Prelude.{◌≡◌, ◌*◌, ◌≤◌, length};
@@ -39,7 +39,7 @@ fn most_from(rows: &[Row], free: Bundle) -> u64
     most
 }
 
-// These two are this crate's own, as all here is: another program text than those it is compared with.
+// These two are this crate's own, as all here is: another program text than those that the tests that are to come compare it with.
 fn fits(bid: Bid, free: Bundle) -> bool
     ensures { result ≡ within (meant bid).on (bits 16 free.mask) }
 {

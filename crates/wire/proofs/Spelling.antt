@@ -40,8 +40,12 @@ four_more k at bs =
 pub four_at : (at : ℕ) (bs : List ℕ) → number_in 4 (drop at bs) ≡ get_or bs at 0 + get_or bs (at + 1) 0 * 256 + get_or bs (at + 2) 0 * 65536 + get_or bs (at + 3) 0 * 16777216
 four_at at bs = omega (arith, four_more 0 at bs, none-at (at + 4) bs)
 
-pub eight_at : (at : ℕ) (bs : List ℕ) → number_in 8 (drop at bs) ≡ number_in 4 (drop at bs) + number_in 4 (drop (at + 4) bs) * 4294967296
-eight_at at bs = omega (arith, four_more 4 at bs, four_at at bs)
+four_at' : (a b c d : ℕ) (bs : List ℕ) → b ≡ a + 1 → c ≡ a + 2 → d ≡ a + 3 → number_in 4 (drop a bs) ≡ get_or bs a 0 + get_or bs b 0 * 256 + get_or bs c 0 * 65536 + get_or bs d 0 * 16777216
+four_at' a b c d bs e f g = rw (e, f, g) (four_at a bs)
+
+pub eight_at : (at : ℕ) (bs : List ℕ) → number_in 8 (drop at bs) ≡ get_or bs at 0 + get_or bs (at + 1) 0 * 256 + get_or bs (at + 2) 0 * 65536 + get_or bs (at + 3) 0 * 16777216 + get_or bs (at + 4) 0 * 4294967296
+    + get_or bs (at + 5) 0 * 1099511627776 + get_or bs (at + 6) 0 * 281474976710656 + get_or bs (at + 7) 0 * 72057594037927936
+eight_at at bs = omega (arith, four_more 4 at bs, four_at' (at + 4) (at + 5) (at + 6) (at + 7) bs (omega arith) (omega arith) (omega arith))
 
 pub rest_bytes : (b : ℕ) (bs : List ℕ) → AllBytes (b ∷ bs) → AllBytes bs
 rest_bytes b bs h i = h (suc i)

@@ -8,23 +8,23 @@ use bundles::Row;
 #[derive(Clone, Copy, Debug, PartialEq, Eq)]
 pub enum Refusal {
     // bytes that are no call
-    Unreadable,
+    Unreadable = 1,
     // a value out of range, or a call that the house can't do
-    OutOfRange,
+    OutOfRange = 2,
     // limits out of range at opening, or less memory than they ask for
-    NoHouse,
-    NoSuchLot,
+    NoHouse = 3,
+    NoSuchLot = 4,
     // a bid on a lot that is closed, or a result of one that is not
-    WrongTime,
+    WrongTime = 5,
     // a set with pieces that the lot does not have
-    NotInLot,
+    NotInLot = 6,
     // a lot until a tick that is not later than now
-    NotLater,
+    NotLater = 7,
     // more lots, or later ticks, than there may be
-    AboveLimits,
+    AboveLimits = 8,
 }
 
-#[derive(Clone, Copy)]
+#[derive(Clone, Copy, Debug, PartialEq, Eq)]
 pub enum Answer {
     Refused { refusal: Refusal, place: u64 },
     Number(u64),
@@ -40,16 +40,7 @@ impl From<Refusal> for u64 {
     ghost from_gives = { λ f n. (n ≡ refusal_number f) × (1 ≤ n) × (n ≤ 8) };
 
     fn from(refusal: Refusal) -> u64 {
-        match refusal {
-            Refusal::Unreadable => 1,
-            Refusal::OutOfRange => 2,
-            Refusal::NoHouse => 3,
-            Refusal::NoSuchLot => 4,
-            Refusal::WrongTime => 5,
-            Refusal::NotInLot => 6,
-            Refusal::NotLater => 7,
-            Refusal::AboveLimits => 8,
-        }
+        refusal as u64
     }
 }
 

@@ -13,14 +13,15 @@ use bundles::Bid;
 // A call carries no more.
 pub const MOST_BIDS: usize = 255;
 
-#[derive(Clone, Copy)]
+// No `PartialEq`: bytes beyond the bids are no part of them.
+#[derive(Clone, Copy, Debug)]
 pub struct Bids<'a> {
     pub bytes: &'a [u8],
 }
 
 // The bids of a call, one by one.
 #[derive(Drop)]
-pub struct Offers<'a> {
+pub struct BidsIter<'a> {
     rest: &'a [u8],
 }
 
@@ -57,14 +58,14 @@ impl<'a> Bids<'a> {
         Some(Bid::read(self.bytes, 6 * i))
     }
 
-    pub fn iter(self) -> Offers<'a>
+    pub fn iter(self) -> BidsIter<'a>
         ensures { left result ≡ offers self.entry }
     {
-        Offers { rest: self.part() }
+        BidsIter { rest: self.part() }
     }
 }
 
-impl<'a> Iterator for Offers<'a> {
+impl<'a> Iterator for BidsIter<'a> {
     type Item = Bid;
 
     ghost next_gives = { YieldsFirstBy meant left };

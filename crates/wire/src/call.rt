@@ -1,8 +1,8 @@
-// The calls that a house is asked.
+// The calls that a house is asked. No `PartialEq`, since `Bids` has none.
 
 use crate::bids::Bids;
 
-#[derive(Clone, Copy)]
+#[derive(Clone, Copy, Debug)]
 pub enum Call<'a> {
     Open {
         pieces: u32,

@@ -7,8 +7,8 @@ ghost use Rattle.wire.specs.Sizes.{length-bid, length-spelled};
 use crate::sixes::a_set_and_a_price_are_a_bid;
 use bundles::{Bid, Bundle};
 
-// A value that is so many bytes. The place stands beside the bytes: `u32::read(&request[5..])` would say no more than
-// `u32::read(request, 5)`.
+// A value that is so many bytes. The place stands beside the bytes, which are not cut off before each of some twenty calls:
+// `u32::read(request, 5)` is what the format says, a number at place 5.
 pub trait InBytes: Copy + Drop {
     ghost SIZE: { ℕ };
 
@@ -37,7 +37,7 @@ pub fn byte_or_zero(bytes: &[u8], at: usize) -> u8
     bytes.get(at).copied().unwrap_or(0)
 }
 
-// Writes these values one after the other.
+// Writes these values one after the other, each at its place: of the chunks of a slice a proof knows no element once they are given back.
 pub fn write_all<T: InBytes>(values: &[T], out: &mut [u8], at: usize)
     requires { at + T.SIZE * length values.now ≤ length out.old }
     ensures { out.new ≡ put out.old at (all_bytes T.spelling values.now) }
@@ -101,9 +101,16 @@ impl InBytes for u64 {
     const SIZE: usize = 8;
 
     fn read(bytes: &[u8], at: usize) -> u64 {
-        let low = u32::read(bytes, at);
-        let high = u32::read(bytes, at + 4);
-        u64::from(low) + (u64::from(high) << 32)
+        u64::from_le_bytes([
+            bytes[at],
+            bytes[at + 1],
+            bytes[at + 2],
+            bytes[at + 3],
+            bytes[at + 4],
+            bytes[at + 5],
+            bytes[at + 6],
+            bytes[at + 7],
+        ])
     }
 
     fn write(self, out: &mut [u8], at: usize) {

@@ -4,22 +4,22 @@ ghost use Rattle.wire.specs.Kinds.{answer_kind_number, kind_number};
 
 #[derive(Clone, Copy, Debug, PartialEq, Eq)]
 pub enum Kind {
-    Open,
-    Bid,
-    Ticks,
-    MyBids,
-    Result,
-    Brings,
-    Lot,
+    Open = 0,
+    Bid = 1,
+    Ticks = 2,
+    MyBids = 3,
+    Result = 4,
+    Brings = 5,
+    Lot = 6,
 }
 
-// A table of its own: the two have no number in common but by chance, and a trait for both would have a method for each line.
+// A table of its own: only the shape is that of the calls' kinds, and a trait for both would have a method for each line.
 #[derive(Clone, Copy, Debug, PartialEq, Eq)]
 pub enum AnswerKind {
-    Refused,
-    Number,
-    Two,
-    Bids,
+    Refused = 0,
+    Number = 1,
+    Two = 2,
+    Bids = 3,
 }
 
 // A byte that is the number of no kind.
@@ -30,15 +30,7 @@ impl From<Kind> for u8 {
     ghost from_gives = { λ k n. n ≡ kind_number k };
 
     fn from(kind: Kind) -> u8 {
-        match kind {
-            Kind::Open => 0,
-            Kind::Bid => 1,
-            Kind::Ticks => 2,
-            Kind::MyBids => 3,
-            Kind::Result => 4,
-            Kind::Brings => 5,
-            Kind::Lot => 6,
-        }
+        kind as u8
     }
 }
 
@@ -65,12 +57,7 @@ impl From<AnswerKind> for u8 {
     ghost from_gives = { λ k n. n ≡ answer_kind_number k };
 
     fn from(kind: AnswerKind) -> u8 {
-        match kind {
-            AnswerKind::Refused => 0,
-            AnswerKind::Number => 1,
-            AnswerKind::Two => 2,
-            AnswerKind::Bids => 3,
-        }
+        kind as u8
     }
 }
 

@@ -51,8 +51,8 @@ fn put_row(out: &mut [u8; 256], row: Row) -> usize
     2 + 6 * bids.len()
 }
 
-// The answer that these bytes are, or the place of the first byte that does not fit. This begins as `read_call` does, and a
-// trait for both would have a method for each of these lines.
+// The answer that these bytes are, or the place of the first byte that does not fit. This begins as `read_call` does: a
+// function for the three lines would take the kind as a type and the size as a closure, and be no shorter.
 pub fn read_answer(bytes: &[u8]) -> Result<Answer, usize>
     ensures { heard_as result ≡ answer_in bytes.now }
 {

@@ -1,6 +1,6 @@
 use Rattle.std.proofs.Common.{length, ap, arith, rules}
 use Rattle.wire.proofs.SixBytes.{left-none, left-next}
-use Rattle.wire.proofs.bids.OffersIterator.next.Goals as goal
+use Rattle.wire.proofs.bids.BidsIterIterator.next.Goals as goal
 
 pub returns-then-self-lt6-clause-steps : goal.returns-then-self-lt6-clause-steps
 returns-then-self-lt6-clause-steps c = let none = left-none c.args.self.now.rest.now (omega arith) in (none, none)
