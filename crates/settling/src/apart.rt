@@ -45,6 +45,7 @@ impl Party<'_> {
     fn put_group(&self, group: Bundle, of_group: &Shares, shares: &mut Shares)
         ensures { (free : SetOfPieces) → GroupShares self.now.rows.now self.now.wants group.mask free of_group.now → WithGroup self.now.rows.now self.now.wants group.mask free shares.old shares.new }
     {
+        // By the member's number: with zip it would be four arrays deep, as `self.rows.iter().zip(&self.wants).zip(of_group).zip(shares)`.
         for (member, row) in self.rows.iter().enumerate() {
             if self.wants[member].shares(group) {
                 let share = of_group[member];

@@ -8,7 +8,7 @@ use std::array;
 
 // The bidders of a lot and what each wants of the pieces that there are; behind the last one nothing. What they want stands beside their rows of bids and
 // not with them, since the rows are lent memory, and the solver takes them so.
-#[derive(Clone, Copy)]
+#[derive(Clone, Copy, Debug)]
 pub struct Party<'a> {
     pub whole: Bundle,
     pub rows: &'a [Row],

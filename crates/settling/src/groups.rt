@@ -23,6 +23,7 @@ impl Party<'_> {
     {
         let mut members = UpTo::<Row, 32>::new();
         let mut kept = UpTo::<Row, 32>::new();
+        // By the bidder's number: `.zip(&self.wants)` was tried, and such a loop has no place by which the invariant could name the rows so far.
         for (bidder, row) in self.rows.iter().enumerate() {
             let member = member_row(row, self.wants[bidder], group);
             members.push(member);

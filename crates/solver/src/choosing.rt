@@ -14,7 +14,7 @@ use crate::sums::{get_sum, words_of};
 use bundles::{Bid, Row};
 
 // The tables of some bidders, filled, in lent words; behind the last one stands a table of nothing but 0. `whole` is the set of all pieces that there are.
-#[derive(Clone, Copy)]
+#[derive(Clone, Copy, Debug)]
 pub struct Tables<'w, 'r> {
     pub words: &'w [u32],
     pub pieces: u32,

@@ -26,6 +26,7 @@ impl Tables<'_, '_> {
         let most = get_sum(self.table(0), self.whole);
         let mut shares = [Share::default(); 32];
         before.fill(0);
+        // By the bidder's number, which its table goes by too.
         for (bidder, row) in self.rows.iter().enumerate() {
             let without = join(before, self.table(bidder + 1), self.whole);
             let got = taken[bidder];
