@@ -47,7 +47,7 @@ fn bidders(reader: &mut Reader<'_>, pieces: PieceCount) -> Result<Bidders, Expec
     let mut bidders = Bidders::new();
     loop {
         let row = bidder(reader, pieces)?;
-        bidders.push(row);
+        bidders.add(row);
         if !another(reader, !bidders.is_full(), row)? {
             return Ok(bidders);
         }
