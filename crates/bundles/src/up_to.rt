@@ -85,7 +85,7 @@ impl<T: Copy + fmt::Debug, const N: usize> fmt::Debug for UpTo<T, N> {
 
 impl<T: Copy, const N: usize> UpTo<T, N> {
     ghost use Rattle.bundles.specs.Rows.{held};
-    ghost use Rattle.std.specs.Prelude.{◌≡◌, ◌<◌, ◌≤◌, ◌↔◌, [], ◌∷◌, ◌++◌, length, not, nat_lt, IsOk, OnOk, OnErr};
+    ghost use Rattle.std.specs.Prelude.{◌≡◌, ◌<◌, ◌≤◌, ◌↔◌, [], ◌∷◌, ◌++◌, length, not, nat_lt, if◌then◌else◌, IsOk, OnOk, OnErr};
 
     pub fn as_slice(&self) -> &[T]
         ensures { result.now ≡ held self.now }
@@ -101,13 +101,21 @@ impl<T: Copy, const N: usize> UpTo<T, N> {
         self.count == N
     }
 
-    // One more at the end.
-    pub fn push(&mut self, item: T)
+    // One more at the end, where there is room.
+    pub fn add(&mut self, item: T)
         requires { length (held self.old) < N }
         ensures { held self.new ≡ held self.old ++ item ∷ [] }
     {
         self.items[self.count] = item;
         self.count += 1;
+    }
+
+    // One more at the end, or false where there is no room, and nothing is changed.
+    pub fn push(&mut self, item: T) -> bool
+        ensures pushed { held self.new ≡ (if result then held self.old ++ item ∷ [] else held self.old) }
+        ensures full { result ≡ nat_lt (length (held self.old)) N }
+    {
+        self.try_push(item).is_ok()
     }
 
     // One more at the end; or there is no room, and nothing is changed.
@@ -119,7 +127,7 @@ impl<T: Copy, const N: usize> UpTo<T, N> {
         if self.is_full() {
             return Err(Full);
         }
-        self.push(item);
+        self.add(item);
         Ok(())
     }
 }

@@ -15,7 +15,7 @@ pub fn read_rows(words: &[u32], bidders: usize) -> UpTo<Row, 32>
     let mut rows = UpTo::new();
     let (all, _) = words.as_chunks::<32>();
     for row in &all[..bidders] {
-        rows.push(read_row(row));
+        rows.add(read_row(row));
     }
     rows
 }

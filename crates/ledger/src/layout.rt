@@ -62,11 +62,13 @@ pub struct RowPlace {
     pub ghost there: { HasRow limits lot bidder },
 }
 
-// How many words a house with these limits asks for, or none where they are out of range.
+// How many words a house with these limits asks for, or none where they are out of range. By `?`: with `map(Layout::words)` the compiler no longer sees
+// that opening a house in new memory clears what is clear, and does it twice.
 pub fn words_needed(limits: Limits) -> Option<usize>
     ensures { result ≡ needed limits }
 {
-    limits.layout().map(Layout::words)
+    let layout = limits.layout()?;
+    Some(layout.words())
 }
 
 // Where a lot's words begin.

@@ -38,7 +38,7 @@ pub fn read_row(words: &[u32]) -> Row
         if price == 0 {
             break;
         }
-        row.push(bid_in(price, set));
+        row.add(bid_in(price, set));
     }
     row
 }

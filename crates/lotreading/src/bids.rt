@@ -31,7 +31,7 @@ fn bids(reader: &mut Reader<'_>, pieces: PieceCount) -> Result<Row, Expected>
 {
     let mut row = Row::new();
     loop {
-        row.push(bid(reader, pieces)?);
+        row.add(bid(reader, pieces)?);
         if !another(reader, !row.is_full())? {
             return Ok(row);
         }

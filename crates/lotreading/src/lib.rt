@@ -41,6 +41,7 @@ pub fn read_lot(text: &[u8]) -> Result<Lot, Misread>
 {
     let mut reader = Reader::new(text);
     let lot = lot(&mut reader);
+    // A true difference: what is left is no longer than the text.
     let place = reader.place_in(text);
     lot.map_err(|expected| Misread { place, expected })
 }

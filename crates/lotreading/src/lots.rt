@@ -1,5 +1,5 @@
 // A whole lot: its pieces, a colon, and the bidders, parted by `;`.
-ghost use Rattle.std.specs.Prelude.{◌≡◌};
+ghost use Rattle.std.specs.Prelude.{◌≡◌, ◌≤◌, length};
 ghost use Rattle.bundles.specs.Offers.{all_meant};
 ghost use Rattle.bundles.specs.Rows.{all_held, held};
 ghost use Rattle.lotreading.specs.Lots.{behind_bidder, front as front_in, lot as lot_in, other_bidder, bidders as bidders_in};
@@ -14,8 +14,10 @@ use crate::{Bidders, Lot};
 use bundles::{MOST_PIECES, Row};
 use reading::Reader;
 
+#[tactic(auto, using(crate::proofs::Shorter::lot_left))]
 pub fn lot(reader: &mut Reader<'_>) -> Result<Lot, Expected>
-    ensures { finds_as lot_of result reader.new ≡ lot_in reader.old }
+    ensures read { finds_as lot_of result reader.new ≡ lot_in reader.old }
+    ensures left { length reader.new ≤ length reader.old }
 {
     let pieces = front(reader)?;
     let bidders = bidders(reader, pieces)?;
@@ -47,7 +49,7 @@ fn bidders(reader: &mut Reader<'_>, pieces: PieceCount) -> Result<Bidders, Expec
     let mut bidders = Bidders::new();
     loop {
         let row = bidder(reader, pieces)?;
-        bidders.push(row);
+        bidders.add(row);
         if !another(reader, !bidders.is_full(), row)? {
             return Ok(bidders);
         }

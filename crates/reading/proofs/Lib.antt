@@ -1,3 +1,4 @@
 pub mod Kept
 pub mod Listing
+pub mod Shorter
 pub mod Steps

@@ -1,5 +1,5 @@
 // Calls read from a line: the words and numbers that a call begins with, and what follows them.
-ghost use Rattle.std.specs.Prelude.{◌≡◌};
+ghost use Rattle.std.specs.Prelude.{◌≡◌, ◌≤◌, length};
 ghost use Rattle.reading.specs.Calls.{behind, bids_behind, call, kind as kind_in, likely, words};
 ghost use Rattle.reading.specs.Readers.{seen, seen_as};
 ghost use Rattle.wire.specs.Meaning.{asked};
@@ -11,8 +11,10 @@ use wire::{Bids, Call, Kind};
 
 impl<'a> Reader<'a> {
     // A whole line. The lent buffer takes the bids of a call.
+    #[tactic(auto, using(crate::proofs::Shorter::stuck_within))]
     pub fn call<'b>(&mut self, bids: &'b mut BidBuffer) -> Result<Call<'b>, Unreadable>
-        ensures { seen_as asked result self.new ≡ call self.old }
+        ensures read { seen_as asked result self.new ≡ call self.old }
+        ensures left { length self.new ≤ length self.old }
     {
         self.blanks();
         let kind = self.kind()?;

@@ -125,7 +125,7 @@ pub fn piece(byte: u8) -> Option<u8>
 fn longer(number: u32, digit: u32) -> Option<u32>
     ensures { result ≡ longer_by number digit }
 {
-    number.checked_mul(10)?.checked_add(digit)
+    u32::try_from(10 * u64::from(number) + u64::from(digit)).ok()
 }
 
 // The set with a piece more, if it does not have it yet.

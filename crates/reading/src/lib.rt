@@ -32,6 +32,7 @@ pub fn read_line<'a>(line: &[u8], bids: &'a mut BidBuffer) -> Result<Call<'a>, u
 {
     let mut reader = Reader::new(line);
     let call = reader.call(bids);
+    // A true difference: what is left is no longer than the line.
     let place = reader.place_in(line);
     call.map_err(|_| place)
 }

@@ -39,7 +39,7 @@ fn decoded(bids: Bids<'_>) -> Option<Row>
         if !is_fine(bid) {
             return None;
         }
-        row.push(bid);
+        row.add(bid);
     }
     Some(row)
 }

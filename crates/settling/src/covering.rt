@@ -23,7 +23,7 @@ fn uncovered(bids: &[Bid]) -> Row
     let mut left = Row::new();
     for bid in bids.iter().rev() {
         if !is_covered(*bid, left.as_slice()) {
-            left.push(*bid);
+            left.add(*bid);
         }
     }
     left

@@ -26,8 +26,8 @@ impl Party<'_> {
         // By the bidder's number: `.zip(&self.wants)` was tried, and such a loop has no place by which the invariant could name the rows so far.
         for (bidder, row) in self.rows.iter().enumerate() {
             let member = member_row(row, self.wants[bidder], group);
-            members.push(member);
-            kept.push(matter(&member));
+            members.add(member);
+            kept.add(matter(&member));
         }
         share_out(
             tables,

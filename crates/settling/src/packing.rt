@@ -34,7 +34,7 @@ pub fn pack_row(row: &Row, places: Bundle) -> Row
 {
     let mut packed = Row::new();
     for bid in row.as_slice() {
-        packed.push(pack_bid(*bid, places));
+        packed.add(pack_bid(*bid, places));
     }
     packed
 }

@@ -31,9 +31,10 @@ fn sets_are_joined_and_taken_away(rt: HostRuntime) {
 #[test]
 fn a_list_takes_so_many_and_not_one_more(rt: HostRuntime) {
     let mut list: UpTo<u8, 2> = UpTo::new();
-    list.push(7);
+    assert!(rt; list.push(7));
     assert!(rt; list.try_push(8).is_ok());
     assert!(rt; list.try_push(9) == Err(Full));
+    assert!(rt; !list.push(9));
     assert!(rt; list.as_slice() == [7, 8].as_slice());
     let none: UpTo<u8, 2> = UpTo::default();
     assert!(rt; none.as_slice().is_empty());

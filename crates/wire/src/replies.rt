@@ -111,7 +111,7 @@ fn row_in(bids: Bids<'_>) -> Row
 {
     let mut row = Row::new();
     for bid in bids.iter() {
-        row.push(bid);
+        row.add(bid);
     }
     row
 }

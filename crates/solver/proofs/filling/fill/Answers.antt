@@ -8,7 +8,7 @@ use Rattle.solver.proofs.Goods.{nothing}
 use Rattle.solver.proofs.filling.fill.Goals as goal
 
 pub loop-bid-init : goal.loop-bid-init
-loop-bid-init c = rw c.copy_from_slice.ensures.after (filled_none c.args.from.now)
+loop-bid-init c = rw c.copy_table.ensures (filled_none c.args.from.now)
 
 pub loop-bid-preserved : goal.loop-bid-preserved
 loop-bid-preserved c =

@@ -22,7 +22,7 @@ loop-bidder-preserved c =
     let here : i < length p.rows.now = omega arith in
     let same = ap held c.row-item.is ∙ sym (get_or-map held p.rows.now i c.row-item.result [] here) in
     let is = c.member_row-member.ensures ∙ ap (λ (bs : List Bid). pick (member p.wants m i) (all_meant (packed_bids m bs)) []) same in
-    rw (c.push.ensures, c.push-in-loop-bidder.ensures) (gathered_more _ _ _ _ c.loop-bidder.invariant _ _ is c.matter.ensures)
+    rw (c.add.ensures, c.add-in-loop-bidder.ensures) (gathered_more _ _ _ _ c.loop-bidder.invariant _ _ is c.matter.ensures)
 
 pub share_out-requires : goal.share_out-requires
 share_out-requires c =
